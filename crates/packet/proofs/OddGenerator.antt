@@ -36,7 +36,7 @@ same-top false true true e = sym e
 same-top false true false e = e
 same-top false false b e = refl
 
-xor-back : (a g : ℕ) → bitXor (bitXor a g) g ≡ a
+pub xor-back : (a g : ℕ) → bitXor (bitXor a g) g ≡ a
 xor-back a g = xor-assoc a g g ∙ ap (bitXor a) (xor-self g) ∙ xor-zero-r a
 
 same-before : (x : Bool) (m n g : ℕ) → cond x (bitXor m g) m ≡ cond x (bitXor n g) n → m ≡ n
@@ -44,7 +44,7 @@ same-before true m n g e = sym (xor-back m g) ∙ ap (λ y. bitXor y g) e ∙ xo
 same-before false m n g e = e
 
 -- two numbers below 2 that are odd alike
-same-digit : (m n : ℕ) → m < 2 → n < 2 → odd m ≡ odd n → m ≡ n
+pub same-digit : (m n : ℕ) → m < 2 → n < 2 → odd m ≡ odd n → m ≡ n
 same-digit zero zero h k e = refl
 same-digit zero (suc zero) h k e = absurd (false≢true e)
 same-digit zero (suc (suc n)) h k e = absurd (omega arith)

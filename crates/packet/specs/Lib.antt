@@ -6,3 +6,4 @@ pub mod Registers
 pub mod Lawful
 pub mod Building
 pub mod Reading
+pub mod Promises
