@@ -1,0 +1,5 @@
+pub mod Choice
+pub mod Laid
+pub mod Flipping
+pub mod Entries
+pub mod Hubs

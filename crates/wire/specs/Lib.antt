@@ -1,0 +1,4 @@
+pub mod Carrying
+pub mod Delivery
+pub mod Scripts
+pub mod Hubs
