@@ -1,0 +1,14 @@
+-- Why a line is not understood, in words.
+use mathlib.Core.List.{List}
+use Prim.Native.Nat.{ℕ}
+use lib.Chars.{codes}
+use Rattle.script.specs.declared.misread.Misread.{Misread}
+use Rattle.script.specs.declared.misread.Misread.the-variants.{UnknownStep, UnknownKind, NotAByte, NotANumber, MissingWord, ExtraWord}
+
+abbrev pub misread-text : Misread → List ℕ
+misread-text UnknownStep = codes "no step has this name"
+misread-text UnknownKind = codes "no packet of this sort has this kind"
+misread-text NotAByte = codes "a byte is two hexadecimal digits in lower case"
+misread-text NotANumber = codes "a number is decimal digits"
+misread-text MissingWord = codes "a word is missing"
+misread-text ExtraWord = codes "a word too many"
