@@ -1,0 +1,4 @@
+pub mod Refusals
+pub mod Access
+pub mod Plain
+pub mod Limited
