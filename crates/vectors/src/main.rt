@@ -1,8 +1,11 @@
-// Outside vectors for packets: USB's published checks, the examples of each refusal, and every kind of packet built and
-// read back at the edges of its fields. Prints a line for each group and a count; fails where one differs.
+// Outside vectors: USB's published checks, the examples of each refusal, every kind of packet built and read back at the
+// edges of its fields, wires and stores at theirs. Prints a line for each group and a count; fails where one differs.
+mod noise;
 mod published;
 mod refusals;
+mod stores;
 mod there_and_back;
+mod wires;
 
 use std::error::AnyError;
 
@@ -55,6 +58,10 @@ fn run(rt: &LibcRuntime) -> Result<(), AnyError> {
     all.add(there_and_back::tokens(rt)?);
     all.add(there_and_back::bodies(rt)?);
     all.add(there_and_back::handshakes(rt)?);
+    all.add(wires::noise(rt)?);
+    all.add(wires::hubs(rt)?);
+    all.add(stores::refusals(rt)?);
+    all.add(stores::verdicts(rt)?);
     all.show(rt, "all")?;
     if all.differed != 0 {
         return Err("a vector differs".into());
