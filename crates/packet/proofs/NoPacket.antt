@@ -171,7 +171,7 @@ changed-word kind a e u v narrow low small d =
     let w = u + v * 256 in
     let fields = word-fields a e (token-check a e) narrow low (mirrored-below 5 _) in
     let sent : bits-of (word-bytes (token-word a e)) ≡ (bits 7 a ++ bits 4 e) ++ bits 5 (token-check a e) =
-        word-bits (token-word a e) ∙ token-bits (token-word a e) ∙ (λ i. (bits 7 (fields .0 i) ++ bits 4 (fields .1 i)) ++ bits 5 (fields .2 i)) in
+    word-bits (token-word a e) ∙ token-bits (token-word a e) ∙ (λ i. (bits 7 (fields .0 i) ++ bits 4 (fields .1 i)) ++ bits 5 (fields .2 i)) in
     let heard : bits-of (u ∷ v ∷ []) ≡ (bits 7 (w % 128) ++ bits 4 (w / 128 % 16)) ++ bits 5 (w / 2048) = two-bits u v small ∙ token-bits w in
     refuses _ _
     (λ right. one-changed-bit-gives-a-wrong-check 5 0x05 sized-5 (odd-generator-is-lawful 4 0x05 refl) (bits 7 a ++ bits 4 e) (bits 7 (w % 128) ++ bits 4 (w / 128 % 16)) (w / 2048) (subst₂ OneBit sent heard d) (eqb-true _ _ right))
@@ -190,8 +190,8 @@ byte-stays b k h g = xor-lt 8 b (2 ^ k) h (pow-lt g)
 byte-of-changed : (l : List ℕ) (i j k : ℕ) → j < length l → getD l i 0 < 256 → k < 8 → getD (bit-changed l j k) i 0 < 256
 byte-of-changed l i j k within small g =
     elim (cases-eq i j) [
-      inl same ↦ rw same (rw getD-set-same (byte-stays (getD l j 0) k (rw same at small) g))
-    | inr other ↦ rw getD-set-other small
+      | inl same ↦ rw same (rw getD-set-same (byte-stays (getD l j 0) k (rw same at small) g))
+      | inr other ↦ rw getD-set-other small
     ]
 
 changed-rest-token : (kind : TokenKind) (a e i k : ℕ) → a ≤ 127 → e ≤ 15 → i < 2 → k < 8 → reading-token kind (bit-changed (word-bytes (token-word a e)) i k) ≡ refused 24

@@ -64,8 +64,8 @@ module _ (v g : ℕ) (odd-g : g % 2 ≡ 1) where
   unfolding taken
   parity c b =
       elim (differs (top (suc v) c) b) as (λ x. cond x (bitXor (moved-up (suc v) c) g) (moved-up (suc v) c) % 2 ≡ cond x 1 0) [
-        true ↦ xor-mod (moved-up (suc v) c) g 1 ∙ rw (up c, mul-mod-left, odd-g) refl
-      | false ↦ ap (λ y. y % 2) (up c) ∙ mul-mod-left (c % 2 ^ v) 2
+        | true ↦ xor-mod (moved-up (suc v) c) g 1 ∙ rw (up c, mul-mod-left, odd-g) refl
+        | false ↦ ap (λ y. y % 2) (up c) ∙ mul-mod-left (c % 2 ^ v) 2
       ]
 
   same-flag : (c d : ℕ) (a b : Bool) → taken (suc v) g c a ≡ taken (suc v) g d b → differs (top (suc v) c) a ≡ differs (top (suc v) d) b

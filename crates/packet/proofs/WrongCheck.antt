@@ -77,8 +77,8 @@ one-bit-split (x ∷ xs) (u ∷ us) ys vs n (inl d) =
     inl (inl (d .0, same .0), same .1)
 one-bit-split (x ∷ xs) (u ∷ us) ys vs n (inr d) =
     elim (one-bit-split xs us ys vs (omega arith) (d .1)) [
-      inl front ↦ inl (inr (d .0, front .0), front .1)
-    | inr back ↦ inr (λ i. d .0 i ∷ back .0 i, back .1)
+      | inl front ↦ inl (inr (d .0, front .0), front .1)
+      | inr back ↦ inr (λ i. d .0 i ∷ back .0 i, back .1)
     ]
 
 -- what different contents and different bits come to --------------------------------------------------------------
@@ -98,8 +98,8 @@ module _ (w g : ℕ) (sized : Sized w g) (lawful : Lawful w g) where
   unfolding taken
   taken-below c b =
       elim (differs (top w c) b) as (λ x. cond x (bitXor (moved-up w c) g) (moved-up w c) < 2 ^ w) [
-        true ↦ xor-lt w _ _ (mod-lt (c * 2) (pow-pos w)) (sized .generator-fits)
-      | false ↦ mod-lt (c * 2) (pow-pos w)
+        | true ↦ xor-lt w _ _ (mod-lt (c * 2) (pow-pos w)) (sized .generator-fits)
+        | false ↦ mod-lt (c * 2) (pow-pos w)
       ]
 
   fed-below : (c : ℕ) (bs : List Bool) → c < 2 ^ w → fed w g c bs < 2 ^ w
@@ -135,9 +135,9 @@ module _ (w g : ℕ) (sized : Sized w g) (lawful : Lawful w g) where
       let whole : length (covered ++ bits w (check w g covered)) ≡ length covered + w = length-append covered _ ∙ ap (λ n. length covered + n) (length-bits w _) in
       let heard : length (front ++ bits w field) ≡ length front + w = length-append front _ ∙ ap (λ n. length front + n) (length-bits w _) in
       elim (one-bit-split covered front (bits w (check w g covered)) (bits w field) (omega arith) d) [
-        inl changed ↦
-          let same : check w g covered ≡ check w g front = bits-apart w _ _ (mirrored-below w _) (mirrored-below w _) (changed .1 ∙ ap (bits w) right) in
-          fed-one-bit (all-ones w) covered front (ones-lt w) (changed .0)
-          (finished-apart _ _ (fed-below (all-ones w) covered (ones-lt w)) (fed-below (all-ones w) front (ones-lt w)) same)
-      | inr changed ↦ one-bit-differs (bits w field) (subst (λ l. OneBit l (bits w field)) (ap (λ l. bits w (check w g l)) (changed .0) ∙ ap (bits w) (sym right)) (changed .1))
+        | inl changed ↦
+            let same : check w g covered ≡ check w g front = bits-apart w _ _ (mirrored-below w _) (mirrored-below w _) (changed .1 ∙ ap (bits w) right) in
+            fed-one-bit (all-ones w) covered front (ones-lt w) (changed .0)
+            (finished-apart _ _ (fed-below (all-ones w) covered (ones-lt w)) (fed-below (all-ones w) front (ones-lt w)) same)
+        | inr changed ↦ one-bit-differs (bits w field) (subst (λ l. OneBit l (bits w field)) (ap (λ l. bits w (check w g l)) (changed .0) ∙ ap (bits w) (sym right)) (changed .1))
       ]

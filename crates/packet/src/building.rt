@@ -30,14 +30,21 @@ impl Packet<'_> {
     }
 }
 
-fn build_token(kind: TokenKind, address: u8, endpoint: u8, out: &mut [u8; 67]) -> Result<usize, Refusal>
+fn build_token(
+    kind: TokenKind,
+    address: u8,
+    endpoint: u8,
+    out: &mut [u8; 67],
+) -> Result<usize, Refusal>
     ensures answer { λ r. ⌜ r ≡ build-answer (token kind address endpoint) ⌝ }
     ensures memory { λ _. ⌜ now (out .exit) ≡ build-memory (token kind address endpoint) (now (out .entry)) ⌝ }
 {
     if address > 127 || endpoint > 15 {
         return Err(Refusal::TooWide);
     }
-    let word = u16::from(address) + u16::from(endpoint) * 128 + token_check(address, endpoint) * 2048;
+    let word = u16::from(address)
+        + u16::from(endpoint) * 128
+        + token_check(address, endpoint) * 2048;
     *out = [0; 67];
     out[0] = Kind::Token(kind).pid();
     out[1] = (word % 256) as u8;

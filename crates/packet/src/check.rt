@@ -1,10 +1,10 @@
 // The checks of tokens and of bodies, each made by its register.
 ghost use mathlib.Core.Path.{_≡_};
 ghost use Rattle.packet.specs.Building.{token-check, body-check};
-use super::register::Crc16;
-use super::register::Crc16Check;
 use super::register::Crc5;
 use super::register::Crc5Check;
+use super::register::Crc16;
+use super::register::Crc16Check;
 use super::register::Register;
 
 // The check over a token's address, 7 bits, and endpoint, 4 bits.

@@ -20,11 +20,13 @@ fn token_comes_back(kind: TokenKind, address: u8, endpoint: u8) -> bool {
         return false;
     }
     match read(&memory[0..length]) {
-        Ok(Packet::Token {
-            kind: k,
-            address: a,
-            endpoint: e,
-        }) => k == kind && a == address && e == endpoint,
+        Ok(
+            Packet::Token {
+                kind: k,
+                address: a,
+                endpoint: e,
+            },
+        ) => k == kind && a == address && e == endpoint,
         _ => false,
     }
 }

@@ -58,8 +58,12 @@ pub fn hubs(rt: &LibcRuntime) -> Result<Score, AnyError> {
     score.count(gets_through(&mut wire, Direction::Outward, &[0xd2]) && wire.tell() == 0);
     score.count(!gets_through(&mut wire, Direction::Outward, &[0xd2]) && wire.tell() == 1);
     score.count(gets_through(&mut wire, Direction::Homeward, &[0xd2]) && wire.tell() == 1);
-    score.count(!gets_through(&mut wire, Direction::Outward, &[0x2d, 0x00, 0x10]) && wire.tell() == 2);
-    score.count(gets_through(&mut wire, Direction::Outward, &[0x2d, 0x00, 0x10]) && wire.tell() == 2);
+    score.count(
+        !gets_through(&mut wire, Direction::Outward, &[0x2d, 0x00, 0x10]) && wire.tell() == 2,
+    );
+    score.count(
+        gets_through(&mut wire, Direction::Outward, &[0x2d, 0x00, 0x10]) && wire.tell() == 2,
+    );
     wire.close();
     score.count(!gets_through(&mut wire, Direction::Outward, &[0xd2]) && wire.tell() == 3);
     wire.open();

@@ -37,7 +37,11 @@ impl ScriptedWire {
     pub fn into_script(self) -> Vec<u16>
         ensures { λ r. ⌜ r ≡ self .script ⌝ }
     {
-        let ScriptedWire { script, place, tally } = self;
+        let ScriptedWire {
+            script,
+            place,
+            tally,
+        } = self;
         script
     }
 

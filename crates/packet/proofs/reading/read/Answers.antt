@@ -80,8 +80,8 @@ returns-in-len3 c = c .read-token .ensures ∙ a-token _ _ (search needs) (searc
 pub returns-in-rest-bytes : need.returns-in-rest-bytes
 returns-in-rest-bytes c =
     let other : length (c .args .bytes .now) ≢ 3 = elim (c .in-rest-bytes .came) [
-      in-rest-bytes·by·then-bytes-lt3 w ↦ search needs
-    | in-rest-bytes·by·else-bytes-lt3·else-bytes-lt4 w ↦ search needs
+      | in-rest-bytes·by·then-bytes-lt3 w ↦ search needs
+      | in-rest-bytes·by·else-bytes-lt3·else-bytes-lt4 w ↦ search needs
     ] in
     no-token _ (c .in-Token .kind) (search needs) other (search needs)
 
@@ -94,7 +94,7 @@ returns-in-len1 c = a-handshake _ _ (search needs) (search needs)
 pub returns-in-rest-bytes-2 : need.returns-in-rest-bytes-2
 returns-in-rest-bytes-2 c =
     let more : 1 < length (c .args .bytes .now) = elim (c .in-rest-bytes-2 .came) [
-      in-rest-bytes-2·by·then-bytes-lt1-2 w ↦ search needs
-    | in-rest-bytes-2·by·else-bytes-lt1-2·else-bytes-lt2 w ↦ search needs
+      | in-rest-bytes-2·by·then-bytes-lt1-2 w ↦ search needs
+      | in-rest-bytes-2·by·else-bytes-lt1-2·else-bytes-lt2 w ↦ search needs
     ] in
     long-handshake _ (c .in-Handshake .handshake) more (search needs)

@@ -40,6 +40,6 @@ returns g c =
     let wide = c .width-value .ensures in
     let is-ones = c .ones .ensures in
     elim (c .if-top-bit .came) [
-      then-top-bit w ↦ w .self-is ∙ xored _ _ _ _ _ _ most wide is-ones _ (w .generator-value .ensures) (w .if-top-bit .taken)
-    | else-top-bit w ↦ w .self-is ∙ moved _ _ _ _ _ _ most wide is-ones (w .if-top-bit .left)
+      | then-top-bit w ↦ w .self-is ∙ xored _ _ _ _ _ _ most wide is-ones _ (w .generator-value .ensures) (w .if-top-bit .taken)
+      | else-top-bit w ↦ w .self-is ∙ moved _ _ _ _ _ _ most wide is-ones (w .if-top-bit .left)
     ]

@@ -28,20 +28,20 @@ pub returns-then-not-same : need.returns-then-not-same
 returns-then-not-same g c =
     let other : take (c .match-self .count) (c .match-self .heard) ≡ c .args .sent .now → ⊥ = differs (c .same .result) (c .match-self .count) (c .match-self .heard) _ (c .same .ensures) (c .if-not-same .taken) in
     elim (c .match-self .came) [
-      in-Open w ↦
-        let told = w .pass-count .ensures in
-        let grown = c .grown-self .ensures ∙ ap (λ h. one-more (h .tally)) (w .self-is) ∙ ap one-more (told .tally) in
-        rw (w .self-is, w .heard-is, w .count-is) (record {
-          carries = passes-other (c .args .direction) _ _ _ _ _ _ _ (told .passes) _ _ grown (rw (w .heard-is, w .count-is) at other);
-          ways = rw (w .in-Open .is) (told .passes);
-          port = told .port;
-        })
-    | in-Closed w ↦
-        let told = w .lay-count .ensures in
-        let grown = c .grown-self .ensures ∙ ap (λ h. one-more (h .tally)) (w .self-is) in
-        rw (w .self-is, w .heard-is, w .count-is) (record {
-          carries = closed _ _ _ _ _ (told .count) (told .memory) grown (rw (w .heard-is, w .count-is) at other);
-          ways = rw (w .in-Closed .is) (refl, refl, told .count, told .memory);
-          port = refl;
-        })
+      | in-Open w ↦
+          let told = w .pass-count .ensures in
+          let grown = c .grown-self .ensures ∙ ap (λ h. one-more (h .tally)) (w .self-is) ∙ ap one-more (told .tally) in
+          rw (w .self-is, w .heard-is, w .count-is) (record {
+            carries = passes-other (c .args .direction) _ _ _ _ _ _ _ (told .passes) _ _ grown (rw (w .heard-is, w .count-is) at other);
+            ways = rw (w .in-Open .is) (told .passes);
+            port = told .port;
+          })
+      | in-Closed w ↦
+          let told = w .lay-count .ensures in
+          let grown = c .grown-self .ensures ∙ ap (λ h. one-more (h .tally)) (w .self-is) in
+          rw (w .self-is, w .heard-is, w .count-is) (record {
+            carries = closed _ _ _ _ _ (told .count) (told .memory) grown (rw (w .heard-is, w .count-is) at other);
+            ways = rw (w .in-Closed .is) (refl, refl, told .count, told .memory);
+            port = refl;
+          })
     ]
