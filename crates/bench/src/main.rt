@@ -3,9 +3,9 @@ mod help;
 
 ghost use mathlib.Core.Path.{_≡_};
 ghost use Rattle.bench.specs.Asked.{help-asked};
+use fixture::run_files;
+use fixture::run_script;
 use help::HELP;
-use script::run_files;
-use script::run_script;
 use std::env;
 use std::error::AnyError;
 use std::io;

@@ -1,5 +1,5 @@
 // Runs the scripts in data/, whose expected output comes from an independent model of the rules.
-use script::run_files;
+use fixture::run_files;
 use std::env;
 use std::error::AnyError;
 

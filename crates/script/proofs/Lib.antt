@@ -2,5 +2,3 @@ pub mod Taking
 pub mod Digits
 pub mod ReadBack
 pub mod WordsRead
-pub mod Built
-pub mod Printing

@@ -7,7 +7,8 @@ use native.Mathlib.Omega.{arith}
 use Rattle.std.specs.declared.result.Result.the-variants.{Ok, Err}
 use Rattle.std.specs.shelf.Lists.{All}
 use Rattle.std.proofs.shelf.Ways.{tells}
-use Rattle.script.specs.Hex.{hex-digit, hex-value, hex-byte, after-blanks, hex-bytes, two-digits, byte-read, put-before, bytes-read, Shown-bytes-are-read-back}
+use Rattle.script.specs.Arguments.{put-before}
+use Rattle.script.specs.Hex.{hex-digit, hex-value, hex-byte, after-blanks, hex-bytes, two-digits, byte-read, bytes-read, Shown-bytes-are-read-back}
 use Rattle.script.specs.Text.{blank, solid, starts-solid, onto-first, words}
 
 digit-solid : (n : ℕ) → n < 16 → blank (hex-digit n) ≡ false

@@ -10,6 +10,7 @@ use Rattle.std.specs.declared.result.Result.the-variants.{Ok, Err}
 use Rattle.std.specs.shelf.Lists.{All}
 use Rattle.script.specs.declared.misread.Misread.{Misread}
 use Rattle.script.specs.declared.misread.Misread.the-variants.{NotAByte}
+use Rattle.script.specs.Arguments.{all-read}
 use Rattle.script.specs.Text.{words}
 
 abbrev pub hex-digit : ℕ → ℕ
@@ -42,15 +43,9 @@ byte-read [] = Err NotAByte
 byte-read (high ∷ []) = Err NotAByte
 byte-read (high ∷ low ∷ more ∷ rest) = Err NotAByte
 
-abbrev pub put-before : Result ℕ Misread → Result (List ℕ) Misread → Result (List ℕ) Misread
-put-before (Ok b) (Ok bs) = Ok (b ∷ bs)
-put-before (Ok b) (Err why) = Err why
-put-before (Err why) bs = Err why
-
 -- the bytes that words write
 abbrev pub bytes-read : List (List ℕ) → Result (List ℕ) Misread
-bytes-read [] = Ok []
-bytes-read (w ∷ ws) = put-before (byte-read w) (bytes-read ws)
+bytes-read ws = all-read byte-read ws
 
 -- bytes that are shown are read back as they were
 abbrev pub Shown-bytes-are-read-back : Type 0

@@ -1,9 +1,7 @@
 pub mod Text
 pub mod Misreads
 pub mod Numbers
+pub mod Arguments
 pub mod Hex
 pub mod Names
-pub mod Arguments
 pub mod Steps
-pub mod Outcomes
-pub mod Answers

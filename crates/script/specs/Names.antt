@@ -1,4 +1,4 @@
--- The kinds of packets by their names in a script.
+-- The kinds of packets and the parts of a link by their names in a script.
 use mathlib.Core.Bool.{cond}
 use mathlib.Core.List.{List}
 use Prim.Native.Nat.{ℕ}
@@ -12,8 +12,14 @@ use Rattle.packet.specs.declared.kind.DataKind.{DataKind}
 use Rattle.packet.specs.declared.kind.DataKind.the-variants.{Data0, Data1}
 use Rattle.packet.specs.declared.kind.Handshake.{Handshake}
 use Rattle.packet.specs.declared.kind.Handshake.the-variants.{Ack, Nak, Stall}
+use Rattle.wire.specs.declared.hub.Port.{Port}
+use Rattle.wire.specs.declared.hub.Port.the-variants.{Open, Closed}
+use Rattle.wire.specs.declared.interface.Direction.{Direction}
+use Rattle.wire.specs.declared.interface.Direction.the-variants.{Outward, Homeward}
+use Rattle.script.specs.declared.link.Cable.{Cable}
+use Rattle.script.specs.declared.link.Cable.the-variants.{First, Second}
 use Rattle.script.specs.declared.misread.Misread.{Misread}
-use Rattle.script.specs.declared.misread.Misread.the-variants.{UnknownKind}
+use Rattle.script.specs.declared.misread.Misread.the-variants.{UnknownKind, NotACable, NotAPort, NotADirection}
 
 abbrev pub token-kind-name : TokenKind → List ℕ
 token-kind-name Out = codes "OUT"
@@ -41,3 +47,12 @@ data-kind-read w = named w (data-kind-name Data0) Data0 (named w (data-kind-name
 
 abbrev pub handshake-read : List ℕ → Result Handshake Misread
 handshake-read w = named w (handshake-name Ack) Ack (named w (handshake-name Nak) Nak (named w (handshake-name Stall) Stall (Err UnknownKind)))
+
+abbrev pub cable-read : List ℕ → Result Cable Misread
+cable-read w = named w (codes "1") First (named w (codes "2") Second (Err NotACable))
+
+abbrev pub port-read : List ℕ → Result Port Misread
+port-read w = named w (codes "open") Open (named w (codes "closed") Closed (Err NotAPort))
+
+abbrev pub direction-read : List ℕ → Result Direction Misread
+direction-read w = named w (codes "outward") Outward (named w (codes "homeward") Homeward (Err NotADirection))

@@ -1,7 +1,7 @@
 -- Numbers written in decimal digits.
 use mathlib.Core.Bool.{Bool, cond, _&&_}
 use mathlib.Core.List.{List, [], _∷_}
-use Prim.Native.Nat.{ℕ, min, _+_, _-_, _*_}
+use Prim.Native.Nat.{ℕ, min, _+_, _-_, _*_, _%_}
 use lib.Dec.{leb}
 use Rattle.std.specs.declared.result.Result.{Result}
 use Rattle.std.specs.declared.result.Result.the-variants.{Ok, Err}
@@ -19,3 +19,15 @@ number-after limit n (c ∷ cs) = cond (digit c) (number-after limit (n * 10 + (
 abbrev pub number-read : ℕ → List ℕ → Result ℕ Misread
 number-read limit [] = Err NotANumber
 number-read limit (c ∷ cs) = number-after limit 0 (c ∷ cs)
+
+-- a memory and a buffer of a script have at most 64 MiB
+abbrev pub most-bytes : ℕ
+most-bytes = 67108864
+
+-- the seed of a pattern counts modulo 256
+abbrev pub seed-of : Result ℕ Misread → Result ℕ Misread
+seed-of (Ok n) = Ok (n % 256)
+seed-of (Err why) = Err why
+
+abbrev pub seed-read : List ℕ → Result ℕ Misread
+seed-read w = seed-of (number-read 18446744073709551615 w)

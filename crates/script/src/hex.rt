@@ -34,7 +34,8 @@ fn hex_value(digit: u8) -> u8
     }
 }
 
-fn push_byte(text: &mut String, byte: u8) -> Result<(), AllocError>
+// One byte more at the end of a text.
+pub fn push_byte(text: &mut String, byte: u8) -> Result<(), AllocError>
     ensures { λ r. ⌜ made r (λ _. string-bytes (now (text .exit)) ≡ string-bytes (now (text .entry)) ++ hex-byte byte) ⌝ }
 {
     text.push(char::from(hex_digit(byte / 16)))?;

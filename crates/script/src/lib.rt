@@ -1,26 +1,28 @@
-// Scripts for the bench: their lines and words, the steps they name, and what each step prints.
-mod answer;
+// The language of the bench's scripts: their lines and words, bytes and numbers as text, and the steps that lines name.
 mod argument;
+mod build_steps;
+mod disk_steps;
 mod hex;
 mod kind;
+mod link;
+mod link_steps;
 mod misread;
 mod number;
-mod outcome;
-mod run;
 mod step;
 mod text;
 
-pub use answer::Answer;
-pub use answer::answer_line;
 pub use hex::bytes_shown_are_read_back;
+pub use hex::push_byte;
 pub use hex::read_byte;
 pub use hex::show_bytes;
+pub use kind::data_kind_name;
+pub use kind::handshake_name;
+pub use kind::token_kind_name;
+pub use link::Cable;
 pub use misread::Misread;
 pub use misread::MisreadDisplay;
+pub use number::MOST_BYTES;
 pub use number::read_number;
-pub use outcome::perform;
-pub use run::run_files;
-pub use run::run_script;
 pub use step::Line;
 pub use step::Step;
 pub use step::understand;

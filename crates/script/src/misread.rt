@@ -8,6 +8,9 @@ use std::fmt;
 pub enum Misread {
     UnknownStep,
     UnknownKind,
+    NotACable,
+    NotAPort,
+    NotADirection,
     NotAByte,
     NotANumber,
     MissingWord,
@@ -21,6 +24,9 @@ impl Misread {
         match self {
             Misread::UnknownStep => "no step has this name",
             Misread::UnknownKind => "no packet of this sort has this kind",
+            Misread::NotACable => "a cable is 1 or 2",
+            Misread::NotAPort => "a port is open or closed",
+            Misread::NotADirection => "bytes go outward or homeward",
             Misread::NotAByte => "a byte is two hexadecimal digits in lower case",
             Misread::NotANumber => "a number is decimal digits",
             Misread::MissingWord => "a word is missing",

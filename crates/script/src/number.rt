@@ -2,8 +2,11 @@
 ghost use mathlib.Core.Path.{_≡_};
 ghost use Prim.Native.Nat.{_≤_};
 ghost use Rattle.std.specs.Vec.{made};
-ghost use Rattle.script.specs.Numbers.{number-read};
+ghost use Rattle.script.specs.Numbers.{number-read, seed-read};
 use super::Misread;
+
+// A memory and a buffer of a script have at most 64 MiB, so that no script uses up the machine.
+pub const MOST_BYTES: u32 = 67_108_864;
 
 // The number that a word writes, or the limit where the number is above it: what is too much for one
 // step is refused by the rules of that step, and not here.
@@ -23,4 +26,12 @@ pub fn read_number(word: &[u8], limit: u64) -> Result<u64, Misread>
         number = number.saturating_mul(10).saturating_add(units).min(limit);
     }
     Ok(number)
+}
+
+// The seed of a pattern, which counts modulo 256.
+pub fn read_seed(word: &[u8]) -> Result<u8, Misread>
+    ensures { λ r. ⌜ r ≡ seed-read (now (word .entry)) ⌝ }
+{
+    let seed = read_number(word, u64::MAX)?;
+    Ok((seed % 256) as u8)
 }

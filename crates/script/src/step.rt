@@ -2,17 +2,22 @@
 ghost use mathlib.Core.Path.{_≡_};
 ghost use Rattle.std.specs.Vec.{made};
 ghost use Rattle.script.specs.Arguments.{argument};
-ghost use Rattle.script.specs.Steps.{verb-read, sort-read, step-seen, line-seen, token-step, data-step, handshake-step, build-step, packet-step, step-named, passed-over, understood};
+ghost use Rattle.script.specs.Steps.{verb-read, step-seen, line-seen, step-named, passed-over, understood};
 ghost use Rattle.script.specs.Text.{words, words-left, rest-of};
+use super::Cable;
 use super::Misread;
 use super::Words;
-use super::argument;
+use super::build_steps;
+use super::disk_steps;
+use super::link_steps;
 use super::text::is_named;
 use packet::DataKind;
 use packet::Handshake;
 use packet::TokenKind;
 use std::alloc::AllocError;
 use std::alloc::Global;
+use wire::Direction;
+use wire::Port;
 
 #[derive(Drop)]
 pub enum Step {
@@ -27,6 +32,33 @@ pub enum Step {
         body: Vec<u8>,
     },
     BuildHandshake(Handshake),
+    Cable {
+        cable: Cable,
+        entries: Vec<u16>,
+    },
+    Port(Port),
+    Carry {
+        direction: Direction,
+        bytes: Vec<u8>,
+    },
+    Clear,
+    // So many bytes, zeros or the pattern of a seed.
+    Memory {
+        length: u32,
+        seed: Option<u8>,
+    },
+    Lock,
+    // Into a buffer of this length.
+    Sector {
+        sector: u32,
+        length: u32,
+    },
+    // From a buffer of this length with the pattern of a seed.
+    Put {
+        sector: u32,
+        seed: u8,
+        length: u32,
+    },
 }
 
 // A line of a script: blank or a comment, a step, or neither.
@@ -42,14 +74,14 @@ pub enum Line {
 enum Verb {
     Packet,
     Build,
-}
-
-// What sort of packet is to be built.
-#[derive(Clone, Copy)]
-enum Sort {
-    Token,
-    Data,
-    Handshake,
+    Cable,
+    Port,
+    Carry,
+    Clear,
+    Memory,
+    Lock,
+    Sector,
+    Put,
 }
 
 fn read_verb(word: &[u8]) -> Result<Verb, Misread>
@@ -61,20 +93,29 @@ fn read_verb(word: &[u8]) -> Result<Verb, Misread>
     if is_named(word, b"build") {
         return Ok(Verb::Build);
     }
-    Err(Misread::UnknownStep)
-}
-
-fn read_sort(word: &[u8]) -> Result<Sort, Misread>
-    ensures { λ r. ⌜ r ≡ sort-read (now (word .entry)) ⌝ }
-{
-    if is_named(word, b"token") {
-        return Ok(Sort::Token);
+    if is_named(word, b"cable") {
+        return Ok(Verb::Cable);
     }
-    if is_named(word, b"data") {
-        return Ok(Sort::Data);
+    if is_named(word, b"port") {
+        return Ok(Verb::Port);
     }
-    if is_named(word, b"handshake") {
-        return Ok(Sort::Handshake);
+    if is_named(word, b"carry") {
+        return Ok(Verb::Carry);
+    }
+    if is_named(word, b"clear") {
+        return Ok(Verb::Clear);
+    }
+    if is_named(word, b"memory") {
+        return Ok(Verb::Memory);
+    }
+    if is_named(word, b"lock") {
+        return Ok(Verb::Lock);
+    }
+    if is_named(word, b"sector") {
+        return Ok(Verb::Sector);
+    }
+    if is_named(word, b"put") {
+        return Ok(Verb::Put);
     }
     Err(Misread::UnknownStep)
 }
@@ -89,77 +130,20 @@ fn first_verb(words: &mut Words<'_>) -> Result<Verb, Misread>
     }
 }
 
-fn first_sort(words: &mut Words<'_>) -> Result<Sort, Misread>
-    ensures value { λ r. ⌜ r ≡ argument sort-read (words-left (now (words .entry))) ⌝ }
-    ensures rest { λ _. ⌜ words-left (now (words .exit)) ≡ rest-of (words-left (now (words .entry))) ⌝ }
-{
-    match words.next() {
-        Some(word) => read_sort(word),
-        None => Err(Misread::MissingWord),
-    }
-}
-
-fn build_token(mut words: Words<'_>) -> Result<Step, Misread>
-    ensures { λ r. ⌜ step-seen r ≡ token-step (words-left (words .entry)) ⌝ }
-{
-    let kind = argument::token_kind(&mut words)?;
-    let address = argument::small_number(&mut words)?;
-    let endpoint = argument::small_number(&mut words)?;
-    argument::end(words)?;
-    Ok(Step::BuildToken {
-        kind,
-        address,
-        endpoint,
-    })
-}
-
-fn build_handshake(mut words: Words<'_>) -> Result<Step, Misread>
-    ensures { λ r. ⌜ step-seen r ≡ handshake-step (words-left (words .entry)) ⌝ }
-{
-    let handshake = argument::handshake(&mut words)?;
-    argument::end(words)?;
-    Ok(Step::BuildHandshake(handshake))
-}
-
-fn build_data(heap: Global, mut words: Words<'_>) -> Result<Result<Step, Misread>, AllocError>
-    ensures { λ r. ⌜ made r (λ s. step-seen s ≡ data-step (words-left (words .entry))) ⌝ }
-{
-    let kind = match argument::data_kind(&mut words) {
-        Ok(kind) => kind,
-        Err(why) => return Ok(Err(why)),
-    };
-    match argument::bytes(heap, words)? {
-        Ok(body) => Ok(Ok(Step::BuildData { kind, body })),
-        Err(why) => Ok(Err(why)),
-    }
-}
-
-fn build(heap: Global, mut words: Words<'_>) -> Result<Result<Step, Misread>, AllocError>
-    ensures { λ r. ⌜ made r (λ s. step-seen s ≡ build-step (words-left (words .entry))) ⌝ }
-{
-    match first_sort(&mut words) {
-        Ok(Sort::Token) => Ok(build_token(words)),
-        Ok(Sort::Data) => build_data(heap, words),
-        Ok(Sort::Handshake) => Ok(build_handshake(words)),
-        Err(why) => Ok(Err(why)),
-    }
-}
-
-fn read_packet(heap: Global, words: Words<'_>) -> Result<Result<Step, Misread>, AllocError>
-    ensures { λ r. ⌜ made r (λ s. step-seen s ≡ packet-step (words-left (words .entry))) ⌝ }
-{
-    match argument::bytes(heap, words)? {
-        Ok(bytes) => Ok(Ok(Step::Packet(bytes))),
-        Err(why) => Ok(Err(why)),
-    }
-}
-
 fn named_step(heap: Global, mut words: Words<'_>) -> Result<Result<Step, Misread>, AllocError>
     ensures { λ r. ⌜ made r (λ s. step-seen s ≡ step-named (words-left (words .entry))) ⌝ }
 {
     match first_verb(&mut words) {
-        Ok(Verb::Packet) => read_packet(heap, words),
-        Ok(Verb::Build) => build(heap, words),
+        Ok(Verb::Packet) => build_steps::read_packet(heap, words),
+        Ok(Verb::Build) => build_steps::build(heap, words),
+        Ok(Verb::Cable) => link_steps::cable(heap, words),
+        Ok(Verb::Port) => Ok(link_steps::port(words)),
+        Ok(Verb::Carry) => link_steps::carry(heap, words),
+        Ok(Verb::Clear) => Ok(link_steps::clear(words)),
+        Ok(Verb::Memory) => Ok(disk_steps::memory(words)),
+        Ok(Verb::Lock) => Ok(disk_steps::lock(words)),
+        Ok(Verb::Sector) => Ok(disk_steps::sector(words)),
+        Ok(Verb::Put) => Ok(disk_steps::put(words)),
         Err(why) => Ok(Err(why)),
     }
 }

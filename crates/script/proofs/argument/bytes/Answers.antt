@@ -1,18 +1,18 @@
 use Rattle.std.specs.Of.Vec.{vec-items}
-use Rattle.script.specs.Hex.{bytes-read}
+use Rattle.script.specs.Hex.{byte-read, bytes-read}
 use Rattle.script.specs.Text.{words-left}
-use Rattle.script.proofs.WordsRead.{fewer, byte-more, bytes-end, bytes-start}
+use Rattle.script.proofs.WordsRead.{fewer, number-more, numbers-end, numbers-start}
 use Rattle.script.proofs.argument.bytes.Needs as need
 
 pub loop-word-holds : need.loop-word-holds
-loop-word-holds c = bytes-start (bytes-read (words-left (c .args .words))) _ (c .new-bytes .ensures .items)
+loop-word-holds c = numbers-start (bytes-read (words-left (c .args .words))) _ (c .new-bytes .ensures .items)
 
 pub loop-word-again : need.loop-word-again
 loop-word-again c =
-    byte-more (words-left (c .loop-word .words)) (words-left (c .next .last .self)) (c .in-Some .word .now) (c .in-Some .ensures tt .first) (c .in-Some .ensures tt .rest) _ (vec-items (c .loop-word .bytes)) (vec-items (c .push .last .self)) (c .in-Ok .byte) (c .loop-word .inv) (c .in-Ok .ensures tt) (c .in-Continue-push .ensures tt .items)
+    number-more byte-read (words-left (c .loop-word .words)) (words-left (c .next .last .self)) (c .in-Some .word .now) (c .in-Some .ensures tt .first) (c .in-Some .ensures tt .rest) _ (vec-items (c .loop-word .bytes)) (vec-items (c .push .last .self)) (c .in-Ok .byte) (c .loop-word .inv) (c .in-Ok .ensures tt) (c .in-Continue-push .ensures tt .items)
 
 pub loop-word-less : need.loop-word-less
 loop-word-less c = fewer (words-left (c .loop-word .words)) (words-left (c .next .last .self)) (c .in-Some .word .now) (c .in-Some .ensures tt .first) (c .in-Some .ensures tt .rest)
 
 pub returns : need.returns
-returns c = bytes-end _ _ (words-left (c .loop-word .words)) (c .in-rest .ensures tt .first) (c .loop-word .inv)
+returns c = numbers-end byte-read _ _ (words-left (c .loop-word .words)) (c .in-rest .ensures tt .first) (c .loop-word .inv)
