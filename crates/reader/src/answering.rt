@@ -24,7 +24,7 @@ fn built(packet: Packet<'_>, memory: &mut [u8; 67]) -> usize
 }
 
 // Lays the answer into the memory, zeros behind it, and answers how many bytes it has.
-pub fn lay(answer: Answer, memory: &mut [u8; 67]) -> usize
+pub(crate) fn lay(answer: Answer, memory: &mut [u8; 67]) -> usize
     ensures count { λ r. ⌜ r ≡ length (answer-bytes (answer-seen answer)) ⌝ }
     ensures memory { λ _. ⌜ now (memory .exit) ≡ answer-memory (answer-seen answer) ⌝ }
 {

@@ -91,7 +91,7 @@ impl Toggles {
 
 impl Core {
     // The acknowledgement of what was sent.
-    pub fn hear_bulk_ack(&mut self) -> Answer
+    pub(crate) fn hear_bulk_ack(&mut self) -> Answer
         ensures state { λ r. ⌜ seen (now (self .exit)) ≡ bulk-ack (seen (now (self .entry))) .0 ⌝ }
         ensures answer { λ r. ⌜ answer-seen r ≡ bulk-ack (seen (now (self .entry))) .1 ⌝ }
     {
@@ -119,7 +119,7 @@ impl Core {
     }
 
     // An IN for the endpoint that sends.
-    pub fn hear_bulk_in<S: Store>(&mut self, store: &S) -> Answer
+    pub(crate) fn hear_bulk_in<S: Store>(&mut self, store: &S) -> Answer
         ensures state { λ r. ⌜ seen (now (self .exit)) ≡ bulk-in (seen (now (self .entry))) (disk-of (S·Store .size) (S·Store .sectors) (S·Store .verdict) (now (store .entry))) .0 ⌝ }
         ensures answer { λ r. ⌜ answer-seen r ≡ bulk-in (seen (now (self .entry))) (disk-of (S·Store .size) (S·Store .sectors) (S·Store .verdict) (now (store .entry))) .1 ⌝ }
     {
@@ -179,7 +179,12 @@ impl Core {
     }
 
     // The data after an OUT for the endpoint that receives.
-    pub fn hear_bulk_data<S: Store>(&mut self, store: &mut S, kind: DataKind, body: &[u8]) -> Answer
+    pub(crate) fn hear_bulk_data<S: Store>(
+        &mut self,
+        store: &mut S,
+        kind: DataKind,
+        body: &[u8],
+    ) -> Answer
         ensures state { λ r. ⌜ seen (now (self .exit)) ≡ bulk-data (seen (now (self .entry))) (disk-of (S·Store .size) (S·Store .sectors) (S·Store .verdict) (now (store .entry))) kind (now (body .entry)) .state ⌝ }
         ensures answer { λ r. ⌜ answer-seen r ≡ bulk-data (seen (now (self .entry))) (disk-of (S·Store .size) (S·Store .sectors) (S·Store .verdict) (now (store .entry))) kind (now (body .entry)) .answer ⌝ }
         ensures disk { λ _. ⌜ Left (bulk-data (seen (now (self .entry))) (disk-of (S·Store .size) (S·Store .sectors) (S·Store .verdict) (now (store .entry))) kind (now (body .entry)) .written) (disk-of (S·Store .size) (S·Store .sectors) (S·Store .verdict) (now (store .entry))) (disk-of (S·Store .size) (S·Store .sectors) (S·Store .verdict) (now (store .exit))) ⌝ }

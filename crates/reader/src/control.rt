@@ -22,7 +22,7 @@ use packet::TokenKind;
 use transport::DataDirection;
 
 impl Addresses {
-    pub fn hear(self, address: u8) -> bool
+    pub(crate) fn hear(self, address: u8) -> bool
         ensures { λ r. ⌜ r ≡ addressed self address ⌝ }
     {
         match self {
@@ -31,7 +31,7 @@ impl Addresses {
         }
     }
 
-    pub fn settle(self, kind: TokenKind, address: u8) -> Addresses
+    pub(crate) fn settle(self, kind: TokenKind, address: u8) -> Addresses
         ensures { λ r. ⌜ r ≡ settled self kind address ⌝ }
     {
         match self {
@@ -207,7 +207,7 @@ fn word(low: u8, high: u8) -> u16
 
 impl Core {
     // An IN for the control endpoint.
-    pub fn hear_control_in(&mut self) -> Answer
+    pub(crate) fn hear_control_in(&mut self) -> Answer
         ensures state { λ r. ⌜ seen (now (self .exit)) ≡ control-in (seen (now (self .entry))) .0 ⌝ }
         ensures answer { λ r. ⌜ answer-seen r ≡ control-in (seen (now (self .entry))) .1 ⌝ }
     {
@@ -229,7 +229,7 @@ impl Core {
     }
 
     // The data after a SETUP.
-    pub fn hear_setup_data(&mut self, kind: DataKind, body: &[u8]) -> Answer
+    pub(crate) fn hear_setup_data(&mut self, kind: DataKind, body: &[u8]) -> Answer
         ensures state { λ r. ⌜ seen (now (self .exit)) ≡ setup-data (seen (now (self .entry))) kind (now (body .entry)) .0 ⌝ }
         ensures answer { λ r. ⌜ answer-seen r ≡ setup-data (seen (now (self .entry))) kind (now (body .entry)) .1 ⌝ }
     {
@@ -247,7 +247,7 @@ impl Core {
     }
 
     // The data after an OUT for the control endpoint.
-    pub fn hear_control_data(&mut self) -> Answer
+    pub(crate) fn hear_control_data(&mut self) -> Answer
         ensures state { λ r. ⌜ seen (now (self .exit)) ≡ control-data (seen (now (self .entry))) .0 ⌝ }
         ensures answer { λ r. ⌜ answer-seen r ≡ control-data (seen (now (self .entry))) .1 ⌝ }
     {
@@ -261,7 +261,7 @@ impl Core {
     }
 
     // The acknowledgement of a status.
-    pub fn hear_control_ack(&mut self) -> Answer
+    pub(crate) fn hear_control_ack(&mut self) -> Answer
         ensures state { λ r. ⌜ seen (now (self .exit)) ≡ control-ack (seen (now (self .entry))) .0 ⌝ }
         ensures answer { λ r. ⌜ answer-seen r ≡ control-ack (seen (now (self .entry))) .1 ⌝ }
     {

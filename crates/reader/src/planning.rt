@@ -22,7 +22,7 @@ fn inside(size: u32, sector: u32, count: u16) -> bool
     u64::from(sector) + u64::from(count) <= u64::from(size)
 }
 
-pub fn plan_of(command: Option<Command>, size: u32) -> Plan
+pub(crate) fn plan_of(command: Option<Command>, size: u32) -> Plan
     requires { ⌜ size ≤ 65536 ⌝ }
     ensures value { λ r. ⌜ plan-seen r ≡ plan-of command size ⌝ }
     ensures bound { λ r. ⌜ Bounded r ⌝ }

@@ -51,7 +51,7 @@ impl Core {
     }
 
     // A data packet is taken as data: its bytes join those of the sector that have come, and a whole sector is written.
-    pub fn take_data<S: Store>(&mut self, store: &mut S, receiving: Receiving, body: &[u8])
+    pub(crate) fn take_data<S: Store>(&mut self, store: &mut S, receiving: Receiving, body: &[u8])
         ensures state { λ _. ⌜ seen (now (self .exit)) ≡ with-bulk (take-data (now (self .entry) .toggles) (now (self .entry) .halts) (disk-of (S·Store .size) (S·Store .sectors) (S·Store .verdict) (now (store .entry))) (receiving .tag) (receiving .due) (receiving .left) (receiving .sector) (take (receiving .come) (now (self .entry) .buffer)) (now (body .entry)) .0) (seen (now (self .entry))) ⌝ }
         ensures disk { λ _. ⌜ Left (take-data (now (self .entry) .toggles) (now (self .entry) .halts) (disk-of (S·Store .size) (S·Store .sectors) (S·Store .verdict) (now (store .entry))) (receiving .tag) (receiving .due) (receiving .left) (receiving .sector) (take (receiving .come) (now (self .entry) .buffer)) (now (body .entry)) .1) (disk-of (S·Store .size) (S·Store .sectors) (S·Store .verdict) (now (store .entry))) (disk-of (S·Store .size) (S·Store .sectors) (S·Store .verdict) (now (store .exit))) ⌝ }
     {

@@ -35,7 +35,7 @@ fn body_from(bytes: &[u8], place: usize, most: usize) -> Body
 }
 
 // The packet that waits: the next bytes of what the command sends, at most 64.
-pub fn waiting_body<S: Store>(store: &S, sending: Sending) -> Body
+pub(crate) fn waiting_body<S: Store>(store: &S, sending: Sending) -> Body
     ensures { λ r. ⌜ take (r .length) (r .bytes) ≡ waiting (disk-of (S·Store .size) (S·Store .sectors) (S·Store .verdict) (now (store .entry))) (sending .left) (sending .moved) (sending .source) ⌝ }
 {
     let most = sending.left.min(64) as usize;
@@ -57,7 +57,7 @@ pub fn waiting_body<S: Store>(store: &S, sending: Sending) -> Body
 
 impl Core {
     // The packet that waited is acknowledged: the next one waits, or a status does.
-    pub fn data_acknowledged(&mut self, sending: Sending)
+    pub(crate) fn data_acknowledged(&mut self, sending: Sending)
         ensures { λ _. ⌜ seen (now (self .exit)) ≡ with-bulk (data-acknowledged (now (self .entry) .toggles) (now (self .entry) .halts) (sending .tag) (sending .due) (sending .left) (sending .moved) (sending .source)) (seen (now (self .entry))) ⌝ }
     {
         let count = sending.left.min(64);
@@ -77,7 +77,7 @@ impl Core {
 }
 
 // The bytes of a status block, as a body.
-pub fn status_body(block: StatusBlock) -> Body
+pub(crate) fn status_body(block: StatusBlock) -> Body
     ensures { λ r. ⌜ take (r .length) (r .bytes) ≡ status-bytes block ⌝ }
 {
     let mut bytes = [0; 13];

@@ -40,7 +40,7 @@ impl Halts {
 
 impl Core {
     // Data are over, so many bytes still due: the endpoint halts if there are any, and a status waits.
-    pub fn end_data(&mut self, direction: DataDirection, tag: u32, due: u32, status: Status)
+    pub(crate) fn end_data(&mut self, direction: DataDirection, tag: u32, due: u32, status: Status)
         ensures { λ _. ⌜ seen (now (self .exit)) ≡ with-bulk (over (now (self .entry) .toggles) (now (self .entry) .halts) direction tag due status) (seen (now (self .entry))) ⌝ }
     {
         if due > 0 {
@@ -94,7 +94,7 @@ impl Core {
     }
 
     // A data packet is taken as a command block.
-    pub fn take_block(&mut self, size: u32, body: &[u8])
+    pub(crate) fn take_block(&mut self, size: u32, body: &[u8])
         requires { ⌜ size ≤ 65536 ⌝ }
         ensures { λ _. ⌜ seen (now (self .exit)) ≡ with-bulk (take-block (now (self .entry) .toggles) (now (self .entry) .halts) size (now (body .entry))) (seen (now (self .entry))) ⌝ }
     {

@@ -29,7 +29,7 @@ use std::alloc::Global;
 use wire::Direction;
 use wire::Port;
 
-pub fn token_kind(words: &mut Words<'_>) -> Result<TokenKind, Misread>
+pub(crate) fn token_kind(words: &mut Words<'_>) -> Result<TokenKind, Misread>
     ensures value { λ r. ⌜ r ≡ argument token-kind-read (words-left (now (words .entry))) ⌝ }
     ensures rest { λ _. ⌜ words-left (now (words .exit)) ≡ rest-of (words-left (now (words .entry))) ⌝ }
 {
@@ -39,7 +39,7 @@ pub fn token_kind(words: &mut Words<'_>) -> Result<TokenKind, Misread>
     }
 }
 
-pub fn data_kind(words: &mut Words<'_>) -> Result<DataKind, Misread>
+pub(crate) fn data_kind(words: &mut Words<'_>) -> Result<DataKind, Misread>
     ensures value { λ r. ⌜ r ≡ argument data-kind-read (words-left (now (words .entry))) ⌝ }
     ensures rest { λ _. ⌜ words-left (now (words .exit)) ≡ rest-of (words-left (now (words .entry))) ⌝ }
 {
@@ -49,7 +49,7 @@ pub fn data_kind(words: &mut Words<'_>) -> Result<DataKind, Misread>
     }
 }
 
-pub fn handshake(words: &mut Words<'_>) -> Result<Handshake, Misread>
+pub(crate) fn handshake(words: &mut Words<'_>) -> Result<Handshake, Misread>
     ensures value { λ r. ⌜ r ≡ argument handshake-read (words-left (now (words .entry))) ⌝ }
     ensures rest { λ _. ⌜ words-left (now (words .exit)) ≡ rest-of (words-left (now (words .entry))) ⌝ }
 {
@@ -59,7 +59,7 @@ pub fn handshake(words: &mut Words<'_>) -> Result<Handshake, Misread>
     }
 }
 
-pub fn cable(words: &mut Words<'_>) -> Result<Cable, Misread>
+pub(crate) fn cable(words: &mut Words<'_>) -> Result<Cable, Misread>
     ensures value { λ r. ⌜ r ≡ argument cable-read (words-left (now (words .entry))) ⌝ }
     ensures rest { λ _. ⌜ words-left (now (words .exit)) ≡ rest-of (words-left (now (words .entry))) ⌝ }
 {
@@ -69,7 +69,7 @@ pub fn cable(words: &mut Words<'_>) -> Result<Cable, Misread>
     }
 }
 
-pub fn port(words: &mut Words<'_>) -> Result<Port, Misread>
+pub(crate) fn port(words: &mut Words<'_>) -> Result<Port, Misread>
     ensures value { λ r. ⌜ r ≡ argument port-read (words-left (now (words .entry))) ⌝ }
     ensures rest { λ _. ⌜ words-left (now (words .exit)) ≡ rest-of (words-left (now (words .entry))) ⌝ }
 {
@@ -79,7 +79,7 @@ pub fn port(words: &mut Words<'_>) -> Result<Port, Misread>
     }
 }
 
-pub fn direction(words: &mut Words<'_>) -> Result<Direction, Misread>
+pub(crate) fn direction(words: &mut Words<'_>) -> Result<Direction, Misread>
     ensures value { λ r. ⌜ r ≡ argument direction-read (words-left (now (words .entry))) ⌝ }
     ensures rest { λ _. ⌜ words-left (now (words .exit)) ≡ rest-of (words-left (now (words .entry))) ⌝ }
 {
@@ -90,7 +90,7 @@ pub fn direction(words: &mut Words<'_>) -> Result<Direction, Misread>
 }
 
 // A number, or the limit where it is above that.
-pub fn number(words: &mut Words<'_>, limit: u32) -> Result<u32, Misread>
+pub(crate) fn number(words: &mut Words<'_>, limit: u32) -> Result<u32, Misread>
     ensures value { λ r. ⌜ r ≡ argument (number-read limit) (words-left (now (words .entry))) ⌝ }
     ensures within { λ r. ⌜ made r (λ n. n ≤ limit) ⌝ }
     ensures rest { λ _. ⌜ words-left (now (words .exit)) ≡ rest-of (words-left (now (words .entry))) ⌝ }
@@ -105,7 +105,7 @@ pub fn number(words: &mut Words<'_>, limit: u32) -> Result<u32, Misread>
 }
 
 // A number, or 255 where it is above that.
-pub fn small_number(words: &mut Words<'_>) -> Result<u8, Misread>
+pub(crate) fn small_number(words: &mut Words<'_>) -> Result<u8, Misread>
     ensures value { λ r. ⌜ r ≡ argument (number-read 255) (words-left (now (words .entry))) ⌝ }
     ensures rest { λ _. ⌜ words-left (now (words .exit)) ≡ rest-of (words-left (now (words .entry))) ⌝ }
 {
@@ -116,7 +116,7 @@ pub fn small_number(words: &mut Words<'_>) -> Result<u8, Misread>
 }
 
 // How many bytes a buffer has: as many as a sector where no word says.
-pub fn buffer_length(words: &mut Words<'_>) -> Result<u32, Misread>
+pub(crate) fn buffer_length(words: &mut Words<'_>) -> Result<u32, Misread>
     ensures value { λ r. ⌜ r ≡ optional (number-read most-bytes) 512 (words-left (now (words .entry))) ⌝ }
     ensures rest { λ _. ⌜ words-left (now (words .exit)) ≡ rest-of (words-left (now (words .entry))) ⌝ }
 {
@@ -129,7 +129,7 @@ pub fn buffer_length(words: &mut Words<'_>) -> Result<u32, Misread>
     }
 }
 
-pub fn seed(words: &mut Words<'_>) -> Result<u8, Misread>
+pub(crate) fn seed(words: &mut Words<'_>) -> Result<u8, Misread>
     ensures value { λ r. ⌜ r ≡ argument seed-read (words-left (now (words .entry))) ⌝ }
     ensures rest { λ _. ⌜ words-left (now (words .exit)) ≡ rest-of (words-left (now (words .entry))) ⌝ }
 {
@@ -140,7 +140,7 @@ pub fn seed(words: &mut Words<'_>) -> Result<u8, Misread>
 }
 
 // The seed of a memory that need not have one.
-pub fn optional_seed(words: &mut Words<'_>) -> Result<Option<u8>, Misread>
+pub(crate) fn optional_seed(words: &mut Words<'_>) -> Result<Option<u8>, Misread>
     ensures value { λ r. ⌜ r ≡ optional (λ w. some-of (seed-read w)) None (words-left (now (words .entry))) ⌝ }
     ensures rest { λ _. ⌜ words-left (now (words .exit)) ≡ rest-of (words-left (now (words .entry))) ⌝ }
 {
@@ -153,7 +153,7 @@ pub fn optional_seed(words: &mut Words<'_>) -> Result<Option<u8>, Misread>
     }
 }
 
-pub fn end(mut words: Words<'_>) -> Result<(), Misread>
+pub(crate) fn end(mut words: Words<'_>) -> Result<(), Misread>
     ensures { λ r. ⌜ r ≡ no-more (words-left (words .entry)) ⌝ }
 {
     match words.next() {
@@ -163,7 +163,10 @@ pub fn end(mut words: Words<'_>) -> Result<(), Misread>
 }
 
 // All the words that are left, as bytes.
-pub fn bytes(heap: Global, mut words: Words<'_>) -> Result<Result<Vec<u8>, Misread>, AllocError>
+pub(crate) fn bytes(
+    heap: Global,
+    mut words: Words<'_>,
+) -> Result<Result<Vec<u8>, Misread>, AllocError>
     ensures { λ r. ⌜ made r (λ b. numbers-seen b ≡ bytes-read (words-left (words .entry))) ⌝ }
 {
     let mut bytes = Vec::new(heap);
@@ -177,7 +180,10 @@ pub fn bytes(heap: Global, mut words: Words<'_>) -> Result<Result<Vec<u8>, Misre
 }
 
 // All the words that are left, as the entries of a wire's script; an entry above 65535 is read as that.
-pub fn entries(heap: Global, mut words: Words<'_>) -> Result<Result<Vec<u16>, Misread>, AllocError>
+pub(crate) fn entries(
+    heap: Global,
+    mut words: Words<'_>,
+) -> Result<Result<Vec<u16>, Misread>, AllocError>
     ensures { λ r. ⌜ made r (λ e. numbers-seen e ≡ all-read (number-read 65535) (words-left (words .entry))) ⌝ }
 {
     let mut entries = Vec::new(heap);

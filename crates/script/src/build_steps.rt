@@ -80,7 +80,7 @@ fn build_data(heap: Global, mut words: Words<'_>) -> Result<Result<Step, Misread
     }
 }
 
-pub fn build(heap: Global, mut words: Words<'_>) -> Result<Result<Step, Misread>, AllocError>
+pub(crate) fn build(heap: Global, mut words: Words<'_>) -> Result<Result<Step, Misread>, AllocError>
     ensures { λ r. ⌜ made r (λ s. step-seen s ≡ build-step (words-left (words .entry))) ⌝ }
 {
     match first_sort(&mut words) {
@@ -91,7 +91,10 @@ pub fn build(heap: Global, mut words: Words<'_>) -> Result<Result<Step, Misread>
     }
 }
 
-pub fn read_packet(heap: Global, words: Words<'_>) -> Result<Result<Step, Misread>, AllocError>
+pub(crate) fn read_packet(
+    heap: Global,
+    words: Words<'_>,
+) -> Result<Result<Step, Misread>, AllocError>
     ensures { λ r. ⌜ made r (λ s. step-seen s ≡ packet-step (words-left (words .entry))) ⌝ }
 {
     match argument::bytes(heap, words)? {

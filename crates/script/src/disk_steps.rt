@@ -8,7 +8,7 @@ use super::Step;
 use super::Words;
 use super::argument;
 
-pub fn memory(mut words: Words<'_>) -> Result<Step, Misread>
+pub(crate) fn memory(mut words: Words<'_>) -> Result<Step, Misread>
     ensures { λ r. ⌜ step-seen r ≡ memory-step (words-left (words .entry)) ⌝ }
 {
     let length = argument::number(&mut words, MOST_BYTES)?;
@@ -17,14 +17,14 @@ pub fn memory(mut words: Words<'_>) -> Result<Step, Misread>
     Ok(Step::Memory { length, seed })
 }
 
-pub fn lock(words: Words<'_>) -> Result<Step, Misread>
+pub(crate) fn lock(words: Words<'_>) -> Result<Step, Misread>
     ensures { λ r. ⌜ step-seen r ≡ lock-step (words-left (words .entry)) ⌝ }
 {
     argument::end(words)?;
     Ok(Step::Lock)
 }
 
-pub fn sector(mut words: Words<'_>) -> Result<Step, Misread>
+pub(crate) fn sector(mut words: Words<'_>) -> Result<Step, Misread>
     ensures { λ r. ⌜ step-seen r ≡ sector-step (words-left (words .entry)) ⌝ }
 {
     let sector = argument::number(&mut words, u32::MAX)?;
@@ -33,7 +33,7 @@ pub fn sector(mut words: Words<'_>) -> Result<Step, Misread>
     Ok(Step::Sector { sector, length })
 }
 
-pub fn put(mut words: Words<'_>) -> Result<Step, Misread>
+pub(crate) fn put(mut words: Words<'_>) -> Result<Step, Misread>
     ensures { λ r. ⌜ step-seen r ≡ put-step (words-left (words .entry)) ⌝ }
 {
     let sector = argument::number(&mut words, u32::MAX)?;

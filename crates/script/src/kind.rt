@@ -7,7 +7,7 @@ use packet::DataKind;
 use packet::Handshake;
 use packet::TokenKind;
 
-pub fn read_token_kind(word: &[u8]) -> Result<TokenKind, Misread>
+pub(crate) fn read_token_kind(word: &[u8]) -> Result<TokenKind, Misread>
     ensures { λ r. ⌜ r ≡ token-kind-read (now (word .entry)) ⌝ }
 {
     if is_named(word, b"OUT") {
@@ -22,7 +22,7 @@ pub fn read_token_kind(word: &[u8]) -> Result<TokenKind, Misread>
     Err(Misread::UnknownKind)
 }
 
-pub fn read_data_kind(word: &[u8]) -> Result<DataKind, Misread>
+pub(crate) fn read_data_kind(word: &[u8]) -> Result<DataKind, Misread>
     ensures { λ r. ⌜ r ≡ data-kind-read (now (word .entry)) ⌝ }
 {
     if is_named(word, b"DATA0") {
@@ -34,7 +34,7 @@ pub fn read_data_kind(word: &[u8]) -> Result<DataKind, Misread>
     Err(Misread::UnknownKind)
 }
 
-pub fn read_handshake(word: &[u8]) -> Result<Handshake, Misread>
+pub(crate) fn read_handshake(word: &[u8]) -> Result<Handshake, Misread>
     ensures { λ r. ⌜ r ≡ handshake-read (now (word .entry)) ⌝ }
 {
     if is_named(word, b"ACK") {

@@ -13,7 +13,7 @@ pub enum Cable {
     Second,
 }
 
-pub fn read_cable(word: &[u8]) -> Result<Cable, Misread>
+pub(crate) fn read_cable(word: &[u8]) -> Result<Cable, Misread>
     ensures { λ r. ⌜ r ≡ cable-read (now (word .entry)) ⌝ }
 {
     if is_named(word, b"1") {
@@ -25,7 +25,7 @@ pub fn read_cable(word: &[u8]) -> Result<Cable, Misread>
     Err(Misread::NotACable)
 }
 
-pub fn read_port(word: &[u8]) -> Result<Port, Misread>
+pub(crate) fn read_port(word: &[u8]) -> Result<Port, Misread>
     ensures { λ r. ⌜ r ≡ port-read (now (word .entry)) ⌝ }
 {
     if is_named(word, b"open") {
@@ -37,7 +37,7 @@ pub fn read_port(word: &[u8]) -> Result<Port, Misread>
     Err(Misread::NotAPort)
 }
 
-pub fn read_direction(word: &[u8]) -> Result<Direction, Misread>
+pub(crate) fn read_direction(word: &[u8]) -> Result<Direction, Misread>
     ensures { λ r. ⌜ r ≡ direction-read (now (word .entry)) ⌝ }
 {
     if is_named(word, b"outward") {

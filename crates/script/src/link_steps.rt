@@ -10,7 +10,7 @@ use super::argument;
 use std::alloc::AllocError;
 use std::alloc::Global;
 
-pub fn cable(heap: Global, mut words: Words<'_>) -> Result<Result<Step, Misread>, AllocError>
+pub(crate) fn cable(heap: Global, mut words: Words<'_>) -> Result<Result<Step, Misread>, AllocError>
     ensures { λ r. ⌜ made r (λ s. step-seen s ≡ cable-step (words-left (words .entry))) ⌝ }
 {
     let cable = match argument::cable(&mut words) {
@@ -23,7 +23,7 @@ pub fn cable(heap: Global, mut words: Words<'_>) -> Result<Result<Step, Misread>
     }
 }
 
-pub fn port(mut words: Words<'_>) -> Result<Step, Misread>
+pub(crate) fn port(mut words: Words<'_>) -> Result<Step, Misread>
     ensures { λ r. ⌜ step-seen r ≡ port-step (words-left (words .entry)) ⌝ }
 {
     let port = argument::port(&mut words)?;
@@ -31,7 +31,7 @@ pub fn port(mut words: Words<'_>) -> Result<Step, Misread>
     Ok(Step::Port(port))
 }
 
-pub fn carry(heap: Global, mut words: Words<'_>) -> Result<Result<Step, Misread>, AllocError>
+pub(crate) fn carry(heap: Global, mut words: Words<'_>) -> Result<Result<Step, Misread>, AllocError>
     ensures { λ r. ⌜ made r (λ s. step-seen s ≡ carry-step (words-left (words .entry))) ⌝ }
 {
     let direction = match argument::direction(&mut words) {
@@ -44,7 +44,7 @@ pub fn carry(heap: Global, mut words: Words<'_>) -> Result<Result<Step, Misread>
     }
 }
 
-pub fn clear(words: Words<'_>) -> Result<Step, Misread>
+pub(crate) fn clear(words: Words<'_>) -> Result<Step, Misread>
     ensures { λ r. ⌜ step-seen r ≡ clear-step (words-left (words .entry)) ⌝ }
 {
     argument::end(words)?;

@@ -29,7 +29,7 @@ pub fn read_number(word: &[u8], limit: u64) -> Result<u64, Misread>
 }
 
 // The seed of a pattern, which counts modulo 256.
-pub fn read_seed(word: &[u8]) -> Result<u8, Misread>
+pub(crate) fn read_seed(word: &[u8]) -> Result<u8, Misread>
     ensures { λ r. ⌜ r ≡ seed-read (now (word .entry)) ⌝ }
 {
     let seed = read_number(word, u64::MAX)?;

@@ -103,7 +103,7 @@ impl<'a> Lines<'a> {
 }
 
 // Whether a word is this name.
-pub fn is_named(word: &[u8], name: &[u8]) -> bool
+pub(crate) fn is_named(word: &[u8], name: &[u8]) -> bool
     ensures { λ r. ⌜ r ≡ sameBytes (now (word .entry)) (now (name .entry)) ⌝ }
 {
     word == name

@@ -6,7 +6,7 @@ ghost use lib.ListN.{length, replicate};
 ghost use Rattle.wire.specs.Carrying.{one-more, laid};
 
 // The bytes in front, zeros behind; answers how many arrive.
-pub fn lay(bytes: &[u8], heard: &mut [u8; 67]) -> usize
+pub(crate) fn lay(bytes: &[u8], heard: &mut [u8; 67]) -> usize
     requires { ⌜ length (now bytes) ≤ 67 ⌝ }
     ensures count { λ r. ⌜ r ≡ length (now (bytes .entry)) ⌝ }
     ensures memory { λ _. ⌜ now (heard .exit) ≡ laid (now (bytes .entry)) ⌝ }
@@ -18,7 +18,7 @@ pub fn lay(bytes: &[u8], heard: &mut [u8; 67]) -> usize
 }
 
 // A tally that grows by one, up to 255.
-pub fn grown(tally: u8) -> u8
+pub(crate) fn grown(tally: u8) -> u8
     ensures { λ r. ⌜ r ≡ one-more tally ⌝ }
 {
     tally.saturating_add(1)
