@@ -6,3 +6,7 @@ pub mod Stages
 pub mod BulkEnds
 pub mod Hears
 pub mod Plans
+pub mod Runs
+pub mod Reaching
+pub mod Tasks
+pub mod Promises
