@@ -1,4 +1,6 @@
 // The bench: runs scripts of steps on the link, and prints each step and what came of it.
+#![tactic(auto)]
+
 mod help;
 
 ghost use Rattle.std.specs.Prelude.{◌≡◌};

@@ -1,4 +1,6 @@
 // Runs the scripts in data/, whose expected output comes from an independent model of the rules.
+#![tactic(auto)]
+
 use anyhow::anyhow;
 use fixture::run_files;
 use std::env;

@@ -1,4 +1,6 @@
 // The host's side of the bus below its calls: tries, transactions, control transfers, commands.
+#![tactic(auto)]
+
 mod command;
 mod control;
 mod exchange;

@@ -1,4 +1,6 @@
 // What holds of every run of the host's layers over our reader, whatever the wire spoils.
+#![tactic(auto)]
+
 mod promises;
 
 pub use promises::{

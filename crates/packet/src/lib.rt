@@ -1,4 +1,6 @@
 // Packets of a USB bus: their kinds, their checks, building them into bytes and reading them from bytes.
+#![tactic(auto)]
+
 mod building;
 mod check;
 mod kind;

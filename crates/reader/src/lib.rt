@@ -1,4 +1,6 @@
 // The reader: a USB disk of the Bulk-Only kind, from a port reset to the last status block, over any store.
+#![tactic(auto)]
+
 mod answer;
 mod answering;
 mod bulk;

@@ -1,4 +1,6 @@
 // The language of the bench's scripts: their lines and words, bytes and numbers as text, and the steps that lines name.
+#![tactic(auto)]
+
 mod argument;
 mod build_steps;
 mod disk_steps;

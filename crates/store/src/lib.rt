@@ -1,4 +1,6 @@
 // Stores: what a USB disk keeps its sectors in, as one interface, and four stores behind it.
+#![tactic(auto)]
+
 mod access;
 mod answers;
 mod blank;

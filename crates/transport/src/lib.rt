@@ -1,4 +1,6 @@
 // The formats of Bulk-Only Transport that both ends share: command blocks, status blocks, commands and the capacity reply.
+#![tactic(auto)]
+
 mod blocks;
 mod capacity;
 mod commands;

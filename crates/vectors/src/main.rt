@@ -1,5 +1,7 @@
 // Outside vectors: USB's published checks, the examples of each refusal, every kind of packet built and read back at the
 // edges of its fields, wires and stores at theirs. Prints a line for each group and a count; fails where one differs.
+#![tactic(auto)]
+
 use anyhow::anyhow;
 
 mod noise;

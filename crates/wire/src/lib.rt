@@ -1,4 +1,6 @@
 // Wires: what carries packets between the cradle and the reader, and may spoil them.
+#![tactic(auto)]
+
 mod arrival;
 mod hub;
 mod interface;
