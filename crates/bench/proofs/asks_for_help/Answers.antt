@@ -16,14 +16,14 @@ pub loop-argument-preserved : goal.loop-argument-preserved
 loop-argument-preserved c =
     let words = c.args.arguments.now in
     let i = c.loop-argument.argument-index in
-    let step = asked_at words i c.argument-item.result c.as-str.result.now c.eq.result c.loop-argument-test.true c.argument-item.is c.as-str.ensures.value c.eq.ensures in
+    let step = asked_at words i c.argument-item.result c.as_str.result.now c.eq.result c.loop-argument-test.true c.argument-item.is c.as_str.ensures.value c.eq.ensures in
     sym (step ∙ ap (λ b. b || help_asked (drop (i + 1) words)) c.if-eq.false) ∙ c.loop-argument.invariant
 
 pub returns-then-eq : goal.returns-then-eq
 returns-then-eq c =
     let words = c.args.arguments.now in
     let i = c.loop-argument.argument-index in
-    let step = asked_at words i c.argument-item.result c.as-str.result.now c.eq.result c.loop-argument-test.true c.argument-item.is c.as-str.ensures.value c.eq.ensures in
+    let step = asked_at words i c.argument-item.result c.as_str.result.now c.eq.result c.loop-argument-test.true c.argument-item.is c.as_str.ensures.value c.eq.ensures in
     sym (step ∙ ap (λ b. b || help_asked (drop (i + 1) words)) c.if-eq.true) ∙ c.loop-argument.invariant
 
 pub returns : goal.returns

@@ -10,19 +10,19 @@ use Rattle.host.specs.Transfers.{request_setup, transfers}
 use Rattle.host.proofs.Transferring.{given_up_at_setup, given_up_at_reply, transferred}
 use Rattle.host.proofs.control.transfer.Goals as goal
 
-pub returns-in-err-placed : goal.returns-in-err-placed
-returns-in-err-placed g c =
+pub returns-in_err-placed : goal.returns-in_err-placed
+returns-in_err-placed g c =
     let bus = bus_of g.W.Wire.tally g.S.Store.size g.S.Store.sectors g.S.Store.verdict in
     let b = bus c.args.wire.now c.args.reader.now.core c.args.reader.now.store in
     let l = c.deliver-sent.new in
     let m = bus l.wire l.reader.core l.reader.store in
     let a = address_number c.args.address in
     let first = subst (λ s. Performs (delivers 3 (token Setup a 0) (data_packet Data0 s) Nothing) b (ending_seen (λ y. y) c.deliver-sent.result) m) c.setup-setup.ensures c.deliver-sent.ensures in
-    let r : c.from-residual.result ≡ Err c.in-err-placed.field-0.0 = search rules in
-    rw r (given_up_at_setup a (request_setup c.args.request) b m c.deliver-sent.result first _ c.in-err-placed.ensures)
+    let r : c.from_residual.result ≡ Err c.in_err-placed.field-0.0 = search rules in
+    rw r (given_up_at_setup a (request_setup c.args.request) b m c.deliver-sent.result first _ c.in_err-placed.ensures)
 
-pub returns-in-err-placed-2 : goal.returns-in-err-placed-2
-returns-in-err-placed-2 g c =
+pub returns-in_err-placed-2 : goal.returns-in_err-placed-2
+returns-in_err-placed-2 g c =
     let bus = bus_of g.W.Wire.tally g.S.Store.size g.S.Store.sectors g.S.Store.verdict in
     let b = bus c.args.wire.now c.args.reader.now.core c.args.reader.now.store in
     let l = c.deliver-sent.new in
@@ -31,8 +31,8 @@ returns-in-err-placed-2 g c =
     let n = bus k.wire k.reader.core k.reader.store in
     let a = address_number c.args.address in
     let first = subst (λ s. Performs (delivers 3 (token Setup a 0) (data_packet Data0 s) Nothing) b (ending_seen (λ y. y) c.deliver-sent.result) m) c.setup-setup.ensures c.deliver-sent.ensures in
-    let r : c.from-residual-in-err-placed-2.result ≡ Err c.in-err-placed-2.field-0.0 = search rules in
-    rw r (given_up_at_reply a (request_setup c.args.request) b m c.deliver-sent.result first c.in-ok-placed.field-0 c.in-ok-placed.ensures n c.fetch-reply.result _ c.fetch-reply.ensures c.in-err-placed-2.ensures)
+    let r : c.from_residual-in_err-placed-2.result ≡ Err c.in_err-placed-2.field-0.0 = search rules in
+    rw r (given_up_at_reply a (request_setup c.args.request) b m c.deliver-sent.result first c.in_ok-placed.field-0 c.in_ok-placed.ensures n c.fetch-reply.result _ c.fetch-reply.ensures c.in_err-placed-2.ensures)
 
 pub returns : goal.returns
 returns g c =
@@ -44,4 +44,4 @@ returns g c =
     let n = bus k.wire k.reader.core k.reader.store in
     let a = address_number c.args.address in
     let first = subst (λ s. Performs (delivers 3 (token Setup a 0) (data_packet Data0 s) Nothing) b (ending_seen (λ y. y) c.deliver-sent.result) m) c.setup-setup.ensures c.deliver-sent.ensures in
-    transferred a (request_setup c.args.request) b m c.deliver-sent.result first c.in-ok-placed.field-0 c.in-ok-placed.ensures n c.fetch-reply.result c.in-ok-placed-2.field-0 c.fetch-reply.ensures c.in-ok-placed-2.ensures
+    transferred a (request_setup c.args.request) b m c.deliver-sent.result first c.in_ok-placed.field-0 c.in_ok-placed.ensures n c.fetch-reply.result c.in_ok-placed-2.field-0 c.fetch-reply.ensures c.in_ok-placed-2.ensures

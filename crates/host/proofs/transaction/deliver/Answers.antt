@@ -12,7 +12,7 @@ pub returns-in-Acknowledged : goal.returns-in-Acknowledged
 returns-in-Acknowledged g c =
     let bus = bus_of g.W.Wire.tally g.S.Store.size g.S.Store.sectors g.S.Store.verdict in
     let l = c.loop-turn in
-    let last = c.try-delivery.new in
+    let last = c.try_delivery.new in
     let m = bus last.wire last.reader.core last.reader.store in
     l.invariant (passed tt) m
     (one_delivery_less l.turn (out_token c.args.pipe) (data_packet c.args.kind c.args.body.now) l.cause (bus l.wire l.reader.core l.reader.store) m m Acknowledged (passed tt) c.loop-turn-test.true c.in-Acknowledged.ensures (over (passed tt) m))
@@ -21,7 +21,7 @@ pub returns-in-Stalled : goal.returns-in-Stalled
 returns-in-Stalled g c =
     let bus = bus_of g.W.Wire.tally g.S.Store.size g.S.Store.sectors g.S.Store.verdict in
     let l = c.loop-turn in
-    let last = c.try-delivery.new in
+    let last = c.try_delivery.new in
     let m = bus last.wire last.reader.core last.reader.store in
     l.invariant stalled m
     (one_delivery_less l.turn (out_token c.args.pipe) (data_packet c.args.kind c.args.body.now) l.cause (bus l.wire l.reader.core l.reader.store) m m Stalled stalled c.loop-turn-test.true c.in-Stalled.ensures (over stalled m))
@@ -30,7 +30,7 @@ pub loop-turn-preserved : goal.loop-turn-preserved
 loop-turn-preserved g c e b rest =
     let bus = bus_of g.W.Wire.tally g.S.Store.size g.S.Store.sectors g.S.Store.verdict in
     let l = c.loop-turn in
-    let last = c.try-delivery.new in
+    let last = c.try_delivery.new in
     let m = bus last.wire last.reader.core last.reader.store in
     l.invariant e b
     (one_delivery_less l.turn (out_token c.args.pipe) (data_packet c.args.kind c.args.body.now) l.cause (bus l.wire l.reader.core l.reader.store) m b (Failed c.in-Failed.failed) e c.loop-turn-test.true c.in-Failed.ensures rest)

@@ -16,8 +16,8 @@ use Rattle.host.proofs.transaction.try_fetch.Goals as goal
 front_read : (count : ℕ) (heard : List ℕ) (r : Reading) → r ≡ reading (take (count - 0) heard) → r ≡ reading (take count heard)
 front_read count heard r is = is ∙ ap (λ n. reading (take n heard)) (omega arith)
 
-pub judge-arrival-arrival-requires : goal.judge-arrival-arrival-requires
-judge-arrival-arrival-requires g c = subst AtMost64 (sym c.read.ensures) (a_body_is_short _)
+pub judge_arrival-arrival-requires : goal.judge_arrival-arrival-requires
+judge_arrival-arrival-requires g c = subst AtMost64 (sym c.read.ensures) (a_body_is_short _)
 
 -- the token of the pipe, what was heard, and what was made of it
 tried : (head sent : Parts) (toggle : DataKind) (fit : Fit) (b m a : Bus) (count : ℕ) (heard : List ℕ) (r : Reading) (x y : Fetch)
@@ -33,7 +33,7 @@ returns-in-New g c =
     let b = bus c.args.wire.now c.args.reader.now.core c.args.reader.now.store in
     let m = bus e.wire e.reader.core e.reader.store in
     let a = bus k.wire k.reader.core k.reader.store in
-    tried (in_token c.args.pipe) _ c.args.toggle c.args.fit b m a c.exchange-count.result e.heard _ _ (new (body_bytes c.in-New.field-0)) (ap arrival_seen c.in-New.is) c.token.ensures.is c.exchange-count.ensures.performs c.read.ensures c.judge-arrival-arrival.ensures (new_acknowledged _ m a c.acknowledge.ensures)
+    tried (in_token c.args.pipe) _ c.args.toggle c.args.fit b m a c.exchange-count.result e.heard _ _ (new (body_bytes c.in-New.field-0)) (ap arrival_seen c.in-New.is) c.token.ensures.is c.exchange-count.ensures.performs c.read.ensures c.judge_arrival-arrival.ensures (new_acknowledged _ m a c.acknowledge.ensures)
 
 pub returns-in-Repeat : goal.returns-in-Repeat
 returns-in-Repeat g c =
@@ -43,7 +43,7 @@ returns-in-Repeat g c =
     let b = bus c.args.wire.now c.args.reader.now.core c.args.reader.now.store in
     let m = bus e.wire e.reader.core e.reader.store in
     let a = bus k.wire k.reader.core k.reader.store in
-    tried (in_token c.args.pipe) _ c.args.toggle c.args.fit b m a c.exchange-count.result e.heard _ _ repeated (ap arrival_seen c.in-Repeat.is) c.token.ensures.is c.exchange-count.ensures.performs c.read.ensures c.judge-arrival-arrival.ensures (repeat_acknowledged m a c.acknowledge-in-Repeat.ensures)
+    tried (in_token c.args.pipe) _ c.args.toggle c.args.fit b m a c.exchange-count.result e.heard _ _ repeated (ap arrival_seen c.in-Repeat.is) c.token.ensures.is c.exchange-count.ensures.performs c.read.ensures c.judge_arrival-arrival.ensures (repeat_acknowledged m a c.acknowledge-in-Repeat.ensures)
 
 pub returns-in-Stalled : goal.returns-in-Stalled
 returns-in-Stalled g c =
@@ -51,7 +51,7 @@ returns-in-Stalled g c =
     let e = c.exchange-count.new in
     let b = bus c.args.wire.now c.args.reader.now.core c.args.reader.now.store in
     let m = bus e.wire e.reader.core e.reader.store in
-    tried (in_token c.args.pipe) _ c.args.toggle c.args.fit b m m c.exchange-count.result e.heard _ _ stall (ap arrival_seen c.in-Stalled.is) c.token.ensures.is c.exchange-count.ensures.performs c.read.ensures c.judge-arrival-arrival.ensures (over stall m)
+    tried (in_token c.args.pipe) _ c.args.toggle c.args.fit b m m c.exchange-count.result e.heard _ _ stall (ap arrival_seen c.in-Stalled.is) c.token.ensures.is c.exchange-count.ensures.performs c.read.ensures c.judge_arrival-arrival.ensures (over stall m)
 
 pub returns-in-Failed : goal.returns-in-Failed
 returns-in-Failed g c =
@@ -60,4 +60,4 @@ returns-in-Failed g c =
     let b = bus c.args.wire.now c.args.reader.now.core c.args.reader.now.store in
     let m = bus e.wire e.reader.core e.reader.store in
     let x = failed c.in-Failed.field-0 in
-    tried (in_token c.args.pipe) _ c.args.toggle c.args.fit b m m c.exchange-count.result e.heard _ _ x (ap arrival_seen c.in-Failed.is) c.token.ensures.is c.exchange-count.ensures.performs c.read.ensures c.judge-arrival-arrival.ensures (over x m)
+    tried (in_token c.args.pipe) _ c.args.toggle c.args.fit b m m c.exchange-count.result e.heard _ _ x (ap arrival_seen c.in-Failed.is) c.token.ensures.is c.exchange-count.ensures.performs c.read.ensures c.judge_arrival-arrival.ensures (over x m)

@@ -25,19 +25,19 @@ module _ (k : TokenKind) (a e : ℕ) (narrow : a ≤ 127) (low : e ≤ 15) where
   unfolding building
   filled first x y z before f p q r = rw (f, p, q, r) (sym (cond-true _ _ _ can))
 
-pub overflow-mul-word-2 : goal.overflow-mul-word-2
-overflow-mul-word-2 c =
-    let small = check_below _ _ _ c.token-check.ensures in
+pub overflow_mul-word-2 : goal.overflow_mul-word-2
+overflow_mul-word-2 c =
+    let small = check_below _ _ _ c.token_check.ensures in
     search rules
 
-pub overflow-add-word-2 : goal.overflow-add-word-2
-overflow-add-word-2 c =
-    let small = check_below _ _ _ c.token-check.ensures in
+pub overflow_add-word-2 : goal.overflow_add-word-2
+overflow_add-word-2 c =
+    let small = check_below _ _ _ c.token_check.ensures in
     search rules
 
-pub overflow-cast-out-2 : goal.overflow-cast-out-2
-overflow-cast-out-2 c =
-    let small = check_below _ _ _ c.token-check.ensures in
+pub overflow_cast-out-2 : goal.overflow_cast-out-2
+overflow_cast-out-2 c =
+    let small = check_below _ _ _ c.token_check.ensures in
     search rules
 
 pub returns : goal.returns
@@ -47,5 +47,5 @@ returns c =
     let low : c.args.endpoint ≤ 15 = omega arith in
     record {
       answer = answered c.args.kind _ _ narrow low;
-      memory = filled c.args.kind _ _ narrow low _ _ _ _ _ c.pid.ensures (search rules) (search rules) c.token-check.ensures;
+      memory = filled c.args.kind _ _ narrow low _ _ _ _ _ c.pid.ensures (search rules) (search rules) c.token_check.ensures;
     }

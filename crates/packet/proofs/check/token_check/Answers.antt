@@ -7,4 +7,4 @@ use Rattle.packet.proofs.check.token_check.Goals as goal
 pub returns : goal.returns
 returns c =
     c.check.ensures
-    ∙ ap (finished 5) (rw (c.take-low-bits-2.ensures, c.take-low-bits.ensures, c.new-register.ensures) (sym (fed_append 5 0x05 31 (bits 7 c.args.address) (bits 4 c.args.endpoint))))
+    ∙ ap (finished 5) (rw (c.take_low_bits-2.ensures, c.take_low_bits.ensures, c.new-register.ensures) (sym (fed_append 5 0x05 31 (bits 7 c.args.address) (bits 4 c.args.endpoint))))

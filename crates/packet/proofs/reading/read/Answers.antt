@@ -10,7 +10,7 @@ use Rattle.packet.specs.Parts.{handshake}
 use Rattle.packet.specs.Reading.{reading, reading_word, reading_data, packet, refused}
 use Rattle.packet.specs.Refusals.{refusal_number}
 use Rattle.packet.proofs.reading.read.Goals as goal
-use Rattle.packet.proofs.reading.read.Goals.{in-default-bytes-via-then-bytes-lt3, in-default-bytes-via-else-bytes-lt3+else-bytes-lt4, in-default-bytes-2-via-then-bytes-lt1-2, in-default-bytes-2-via-else-bytes-lt1-2+else-bytes-lt2}
+use Rattle.packet.proofs.reading.read.Goals.{in_default-bytes-via-then-bytes-lt3, in_default-bytes-via-else-bytes-lt3+else-bytes-lt4, in_default-bytes-2-via-then-bytes-lt1-2, in_default-bytes-2-via-else-bytes-lt1-2+else-bytes-lt2}
 
 -- each way through the function, over the bytes as a list
 no_bytes : (s : List ℕ) → length s < 1 → refused 20 ≡ reading s
@@ -58,35 +58,35 @@ a_body (b ∷ s) x h k =
     let all : take (length (b ∷ s) - 1) s ≡ s = take_all _ _ (omega arith) in
     rw (k, all)
 
-pub returns-in-default : goal.returns-in-default
-returns-in-default c = no_bytes _ (search rules)
+pub returns-in_default : goal.returns-in_default
+returns-in_default c = no_bytes _ (search rules)
 
-pub returns-in-err-kind : goal.returns-in-err-kind
-returns-in-err-kind c =
-    let p = err_from_is_err_and c.from-residual.result c.from-residual.ensures.1 in
+pub returns-in_err-kind : goal.returns-in_err-kind
+returns-in_err-kind c =
+    let p = err_from_is_err_and c.from_residual.result c.from_residual.ensures.1 in
     rw (p.1, p.2) (no_kind _ _ (search rules) (search rules))
 
 pub returns-in-len3 : goal.returns-in-len3
-returns-in-len3 c = c.read-token.ensures ∙ a_token _ _ (search rules) (search rules)
+returns-in-len3 c = c.read_token.ensures ∙ a_token _ _ (search rules) (search rules)
 
-pub returns-in-default-bytes : goal.returns-in-default-bytes
-returns-in-default-bytes c =
-    let other : length c.args.bytes.now ≢ 3 = elim c.in-default-bytes.branch [
-      | in-default-bytes-via-then-bytes-lt3 w ↦ search rules
-      | in-default-bytes-via-else-bytes-lt3+else-bytes-lt4 w ↦ search rules
+pub returns-in_default-bytes : goal.returns-in_default-bytes
+returns-in_default-bytes c =
+    let other : length c.args.bytes.now ≢ 3 = elim c.in_default-bytes.branch [
+      | in_default-bytes-via-then-bytes-lt3 w ↦ search rules
+      | in_default-bytes-via-else-bytes-lt3+else-bytes-lt4 w ↦ search rules
     ] in
     no_token _ c.in-Token.kind (search rules) other (search rules)
 
 pub returns-in-Data : goal.returns-in-Data
-returns-in-Data c = c.read-data.ensures ∙ a_body _ _ (search rules) (search rules)
+returns-in-Data c = c.read_data.ensures ∙ a_body _ _ (search rules) (search rules)
 
 pub returns-in-len1 : goal.returns-in-len1
 returns-in-len1 c = a_handshake _ _ (search rules) (search rules)
 
-pub returns-in-default-bytes-2 : goal.returns-in-default-bytes-2
-returns-in-default-bytes-2 c =
-    let more : 1 < length c.args.bytes.now = elim c.in-default-bytes-2.branch [
-      | in-default-bytes-2-via-then-bytes-lt1-2 w ↦ search rules
-      | in-default-bytes-2-via-else-bytes-lt1-2+else-bytes-lt2 w ↦ search rules
+pub returns-in_default-bytes-2 : goal.returns-in_default-bytes-2
+returns-in_default-bytes-2 c =
+    let more : 1 < length c.args.bytes.now = elim c.in_default-bytes-2.branch [
+      | in_default-bytes-2-via-then-bytes-lt1-2 w ↦ search rules
+      | in_default-bytes-2-via-else-bytes-lt1-2+else-bytes-lt2 w ↦ search rules
     ] in
     long_handshake _ c.in-Handshake.handshake more (search rules)

@@ -22,14 +22,14 @@ room m i r h = rw (add-one, pow-suc) (omega arith)
 small : (m i : ℕ) → m < 2 ^ i → i < 16 → m < 32768
 small m i h k = omega (arith, pow_mono {i = i} {j = 15} (omega arith))
 
-pub overflow-mul-mirror : goal.overflow-mul-mirror
-overflow-mul-mirror c =
-    let m = small c.loop-i.mirror c.loop-i.-i c.loop-i.invariant.1 (omega arith) in
+pub overflow_mul-mirror : goal.overflow_mul-mirror
+overflow_mul-mirror c =
+    let m = small c.loop-i.mirror c.loop-i._i c.loop-i.invariant.1 (omega arith) in
     search rules
 
-pub overflow-add-mirror : goal.overflow-add-mirror
-overflow-add-mirror c =
-    let m = small c.loop-i.mirror c.loop-i.-i c.loop-i.invariant.1 (omega arith) in
+pub overflow_add-mirror : goal.overflow_add-mirror
+overflow_add-mirror c =
+    let m = small c.loop-i.mirror c.loop-i._i c.loop-i.invariant.1 (omega arith) in
     search rules
 
 pub loop-i-init : goal.loop-i-init

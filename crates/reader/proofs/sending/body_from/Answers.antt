@@ -10,4 +10,4 @@ copied_body bytes copied rest place most start count s n same =
     take_at copied rest count long ∙ same ∙ part_from bytes place most start count s n
 
 pub returns : goal.returns
-returns c = copied_body c.args.bytes.now _ _ c.args.place c.args.most c.min-start.result c.min-length.result c.min-start.ensures c.min-length.ensures c.copy-from-slice.ensures.after
+returns c = copied_body c.args.bytes.now _ _ c.args.place c.args.most c.min-start.result c.min-length.result c.min-start.ensures c.min-length.ensures c.copy_from_slice.ensures.after

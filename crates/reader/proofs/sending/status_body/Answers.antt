@@ -5,4 +5,4 @@ use Rattle.reader.proofs.sending.status_body.Goals as goal
 
 pub returns : goal.returns
 unfolding status_bytes
-returns c = c.body-from.ensures ∙ ap (take 13) c.build.ensures
+returns c = c.body_from.ensures ∙ ap (take 13) c.build.ensures

@@ -46,10 +46,10 @@ returns-in-Ok g c =
     let laws = g.met.S.Store in
     let store = c.args.store.now in
     let told = c.in-Ok.ensures in
-    let capped : c.saturating-add-number.result ≡ min (c.in-Sectors.first + c.args.sending.moved / 512) 4294967295 = omega arith in
-    let allowed = allowed_access (g.S.Store.size store) c.saturating-add-number.result 512 tt c.in-Ok.field-0 told.answer in
-    c.body-from-in-Ok.ensures
-    ∙ read_part (g.S.Store.size store) (g.S.Store.sectors store) c.in-Sectors.first c.args.sending.moved c.args.sending.left c.min-most.result c.saturating-add-number.result (laws.bounds store).1 (laws.count store) (laws.lengths store) capped c.min-most.ensures c.args.sending.packets _ allowed.0 told.memory
+    let capped : c.saturating_add-number.result ≡ min (c.in-Sectors.first + c.args.sending.moved / 512) 4294967295 = omega arith in
+    let allowed = allowed_access (g.S.Store.size store) c.saturating_add-number.result 512 tt c.in-Ok.field-0 told.answer in
+    c.body_from-in-Ok.ensures
+    ∙ read_part (g.S.Store.size store) (g.S.Store.sectors store) c.in-Sectors.first c.args.sending.moved c.args.sending.left c.min-most.result c.saturating_add-number.result (laws.bounds store).1 (laws.count store) (laws.lengths store) capped c.min-most.ensures c.args.sending.packets _ allowed.0 told.memory
     ∙ ap (waiting (disk_of g.S.Store.size g.S.Store.sectors g.S.Store.verdict store) c.args.sending.left c.args.sending.moved) (sym c.in-Sectors.is)
 
 pub returns-in-Err : goal.returns-in-Err
@@ -57,8 +57,8 @@ returns-in-Err g c =
     let laws = g.met.S.Store in
     let store = c.args.store.now in
     let told = c.in-Err.ensures in
-    let capped : c.saturating-add-number.result ≡ min (c.in-Sectors.first + c.args.sending.moved / 512) 4294967295 = omega arith in
-    let past = outside (g.S.Store.size store) c.saturating-add-number.result c.in-Err.field-0 told.answer in
-    c.body-from-in-Err.ensures ∙ take_nil c.min-most.result
-    ∙ no_part (g.S.Store.size store) (g.S.Store.sectors store) c.in-Sectors.first c.args.sending.moved c.args.sending.left c.min-most.result c.saturating-add-number.result (laws.bounds store).1 (laws.count store) (laws.lengths store) capped c.min-most.ensures c.args.sending.packets past
+    let capped : c.saturating_add-number.result ≡ min (c.in-Sectors.first + c.args.sending.moved / 512) 4294967295 = omega arith in
+    let past = outside (g.S.Store.size store) c.saturating_add-number.result c.in-Err.field-0 told.answer in
+    c.body_from-in-Err.ensures ∙ take_nil c.min-most.result
+    ∙ no_part (g.S.Store.size store) (g.S.Store.sectors store) c.in-Sectors.first c.args.sending.moved c.args.sending.left c.min-most.result c.saturating_add-number.result (laws.bounds store).1 (laws.count store) (laws.lengths store) capped c.min-most.ensures c.args.sending.packets past
     ∙ ap (waiting (disk_of g.S.Store.size g.S.Store.sectors g.S.Store.verdict store) c.args.sending.left c.args.sending.moved) (sym c.in-Sectors.is)

@@ -6,7 +6,7 @@ use Rattle.script.proofs.hex.push_after_blanks.Goals as goal
 pub loop-byte-preserved : goal.loop-byte-preserved
 unfolding encode
 loop-byte-preserved c =
-    one_byte _ (string_bytes c.loop-byte.text) (string_bytes c.push.new.self) (string_bytes c.push-byte.new.text) c.args.bytes.now c.loop-byte.byte-index c.loop-byte-test.true c.loop-byte.invariant c.in-ok-push.ensures.bytes c.in-ok-push-byte.ensures
+    one_byte _ (string_bytes c.loop-byte.text) (string_bytes c.push.new.self) (string_bytes c.push_byte.new.text) c.args.bytes.now c.loop-byte.byte-index c.loop-byte-test.true c.loop-byte.invariant c.in_ok-push.ensures.bytes c.in_ok-push_byte.ensures
 
 pub returns : goal.returns
 returns c = no_byte _ (string_bytes c.loop-byte.text) c.args.bytes.now c.loop-byte.byte-index c.loop-byte-test.false c.loop-byte.invariant

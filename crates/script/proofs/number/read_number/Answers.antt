@@ -4,7 +4,7 @@ use Rattle.script.proofs.number.read_number.Goals as goal
 use Rattle.script.proofs.number.read_number.Goals.{then-digit-lt48-via-then-digit-lt48, then-digit-lt48-via-else-digit-lt48+then-digit-gt57}
 
 pub loop-digit-init : goal.loop-digit-init
-loop-digit-init c = (0, omega arith, number_some c.args.limit c.args.word.now (false-eqb _ 0 c.if-is-empty.ensures))
+loop-digit-init c = (0, omega arith, number_some c.args.limit c.args.word.now (false-eqb _ 0 c.if-is_empty.ensures))
 
 pub loop-digit-preserved : goal.loop-digit-preserved
 loop-digit-preserved c =
@@ -12,7 +12,7 @@ loop-digit-preserved c =
     let d = get_or c.args.word.now c.loop-digit.digit-index 0 in
     let units : c.from-units.result ≡ d - 48 = c.from-units.ensures in (
       inv.0 * 10 + (d - 48),
-      c.min-number.ensures ∙ limited c.args.limit _ inv.0 (d - 48) _ _ (omega arith) inv.1 c.saturating-mul.ensures (c.saturating-add.ensures ∙ ap (λ u. min (c.saturating-mul.result + u) 18446744073709551615) units),
+      c.min-number.ensures ∙ limited c.args.limit _ inv.0 (d - 48) _ _ (omega arith) inv.1 c.saturating_mul.ensures (c.saturating_add.ensures ∙ ap (λ u. min (c.saturating_mul.result + u) 18446744073709551615) units),
       sym (one_digit c.args.limit inv.0 c.args.word.now c.loop-digit.digit-index c.loop-digit-test.true c.if-digit-lt48.false c.if-digit-gt57.false) ∙ inv.2,
     )
 

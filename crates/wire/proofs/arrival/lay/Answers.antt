@@ -9,4 +9,4 @@ filled bytes copied same =
     rw (same, all) (ap (λ l. bytes ++ l) (drop-replicate (length bytes) 67 0))
 
 pub returns : goal.returns
-returns c = record { count = refl; memory = filled _ _ c.copy-from-slice.ensures.after }
+returns c = record { count = refl; memory = filled _ _ c.copy_from_slice.ensures.after }

@@ -27,16 +27,16 @@ module _ (entry from count : ℕ) (sent memory : List ℕ) (some : 0 < length se
   same : false ≡ is_packet (reading (take (count - 0) turned)) → flipped entry sent ≡ unless_packet (flipped entry sent)
   same e = sym (cond-false _ _ _ (tested false e))
 
-pub returns-then-reads-as-packet : goal.returns-then-reads-as-packet
+pub returns-then-reads_as_packet : goal.returns-then-reads_as_packet
 unfolding turned
-returns-then-reads-as-packet c =
-    let gone = nothing c.args.entry c.from.result c.lay-count.result c.args.sent.now c.lay-count.new.heard c.requires.1 c.from.ensures c.lay-count.ensures.count c.lay-count.ensures.memory c.if-reads-as-packet.ensures in
+returns-then-reads_as_packet c =
+    let gone = nothing c.args.entry c.from.result c.lay-count.result c.args.sent.now c.lay-count.new.heard c.requires.1 c.from.ensures c.lay-count.ensures.count c.lay-count.ensures.memory c.if-reads_as_packet.ensures in
     record { count = c.lay.ensures.count ∙ ap length gone; memory = c.lay.ensures.memory ∙ ap laid gone }
 
 pub returns : goal.returns
 unfolding turned
 returns c =
-    let left = same c.args.entry c.from.result c.lay-count.result c.args.sent.now c.lay-count.new.heard c.requires.1 c.from.ensures c.lay-count.ensures.count c.lay-count.ensures.memory c.if-reads-as-packet.ensures in
+    let left = same c.args.entry c.from.result c.lay-count.result c.args.sent.now c.lay-count.new.heard c.requires.1 c.from.ensures c.lay-count.ensures.count c.lay-count.ensures.memory c.if-reads_as_packet.ensures in
     record {
       count = c.lay-count.ensures.count ∙ sym (length_flipped c.args.entry c.args.sent.now c.requires.1) ∙ ap length left;
       memory = turned_is c.args.entry _ _ c.args.sent.now _ c.requires.1 c.from.ensures c.lay-count.ensures.count c.lay-count.ensures.memory ∙ ap laid left;

@@ -18,7 +18,7 @@ module _ (w g content : ℕ) (bytes : List ℕ) (i : ℕ) where
   none_left h = at_drop_all left bytes i h
 
 pub loop-byte-preserved : goal.loop-byte-preserved
-loop-byte-preserved g c = rw c.take-low-bits.ensures (one_more _ _ _ _ _ c.loop-byte-test.true ∙ c.loop-byte.invariant)
+loop-byte-preserved g c = rw c.take_low_bits.ensures (one_more _ _ _ _ _ c.loop-byte-test.true ∙ c.loop-byte.invariant)
 
 pub returns : goal.returns
 returns g c = sym (none_left _ _ _ _ _ c.loop-byte-test.false) ∙ c.loop-byte.invariant

@@ -22,7 +22,7 @@ loop-i-init g c =
     rw all
 
 pub loop-i-preserved : goal.loop-i-preserved
-loop-i-preserved g c = rw c.take-bit.ensures (one_more _ _ _ _ _ _ c.loop-i-test.true ∙ c.loop-i.invariant)
+loop-i-preserved g c = rw c.take_bit.ensures (one_more _ _ _ _ _ _ c.loop-i-test.true ∙ c.loop-i.invariant)
 
 pub returns : goal.returns
 returns g c = sym (none_left _ _ _ _ _ _ c.loop-i-test.false) ∙ c.loop-i.invariant

@@ -23,7 +23,7 @@ returns-then-end-lt512 g c =
     let few : length (take r.come self.buffer) + c.min-expected.result < 512 = omega arith in
     let disk = disk_of g.S.Store.size g.S.Store.sectors g.S.Store.verdict c.args.store.now in
     record {
-      state = part_state self.toggles self.halts disk r.tag r.due r.left r.sector (take r.come self.buffer) c.args.body.now _ is fits (seen self) _ _ c.saturating-sub.ensures (joined_in_buffer _ _ _ _ _ within c.copy-from-slice.ensures.after is) few;
+      state = part_state self.toggles self.halts disk r.tag r.due r.left r.sector (take r.come self.buffer) c.args.body.now _ is fits (seen self) _ _ c.saturating_sub.ensures (joined_in_buffer _ _ _ _ _ within c.copy_from_slice.ensures.after is) few;
       disk = part_disk self.toggles self.halts disk r.tag r.due r.left r.sector (take r.come self.buffer) c.args.body.now _ is fits few;
     }
 
@@ -41,14 +41,14 @@ returns g c =
     let fits : c.min-expected.result ≡ min 64 r.left = omega arith in
     let all : length (take r.come self.buffer) + c.min-expected.result ≡ 512 = omega (arith, r.room, r.packets) in
     let disk = disk_of g.S.Store.size g.S.Store.sectors g.S.Store.verdict c.args.store.now in
-    let told = c.write-sector-answer.ensures in
-    let bytes = put_mid r.come (r.come + c.min-expected.result - r.come) self.buffer c.copy-from-slice.new.self in
-    let front = joined_in_buffer r.come c.min-expected.result self.buffer c.args.body.now c.copy-from-slice.new.self within c.copy-from-slice.ensures.after is in
+    let told = c.write_sector-answer.ensures in
+    let bytes = put_mid r.come (r.come + c.min-expected.result - r.come) self.buffer c.copy_from_slice.new.self in
+    let front = joined_in_buffer r.come c.min-expected.result self.buffer c.args.body.now c.copy_from_slice.new.self within c.copy_from_slice.ensures.after is in
     let end : r.come + c.min-expected.result ≡ 512 = omega arith in
     let wide : length bytes ≡ r.come + c.min-expected.result = search rules in
     let filled : bytes ≡ take r.come self.buffer ++ c.args.body.now = all_of_it _ bytes _ front wide in
     let said = told.answer ∙ ap (λ n. write_answer disk.size r.sector n (disk.verdict r.sector bytes)) (wide ∙ end) in
     record {
-      state = c.sector-answered.ensures ∙ whole_state self.toggles self.halts disk r.tag r.due r.left r.sector (take r.come self.buffer) c.args.body.now _ is fits (seen self) _ bytes _ c.saturating-sub.ensures filled said all;
-      disk = whole_disk self.toggles self.halts disk r.tag r.due r.left r.sector (take r.come self.buffer) c.args.body.now _ is fits (seen self) c.saturating-sub.result bytes _ c.saturating-sub.ensures filled said all _ told.size told.sectors told.verdicts;
+      state = c.sector_answered.ensures ∙ whole_state self.toggles self.halts disk r.tag r.due r.left r.sector (take r.come self.buffer) c.args.body.now _ is fits (seen self) _ bytes _ c.saturating_sub.ensures filled said all;
+      disk = whole_disk self.toggles self.halts disk r.tag r.due r.left r.sector (take r.come self.buffer) c.args.body.now _ is fits (seen self) c.saturating_sub.result bytes _ c.saturating_sub.ensures filled said all _ told.size told.sectors told.verdicts;
     }

@@ -29,16 +29,16 @@ other sent before after some few grown differs =
 same : (sent : List ℕ) (tally : ℕ) → sent ≡ replicate 67 0 → Carries sent tally 67 (replicate 67 0) tally
 same sent tally is = carries_arrival sent (replicate 67 0) _ tally tally 67 (omega arith) (subst (λ l. Carried l tally (replicate 67 0) tally) (sym is) (delivers (replicate 67 0) tally (omega arith))) refl refl
 
-pub returns-then-is-empty : goal.returns-then-is-empty
-returns-then-is-empty c = none _ _ (search rules)
+pub returns-then-is_empty : goal.returns-then-is_empty
+returns-then-is_empty c = none _ _ (search rules)
 
 pub returns-then-sent-gt67 : goal.returns-then-sent-gt67
-returns-then-sent-gt67 c = too_many _ _ _ (omega arith) (omega (arith, c.saturating-add-self.ensures))
+returns-then-sent-gt67 c = too_many _ _ _ (omega arith) (omega (arith, c.saturating_add-self.ensures))
 
 pub returns-then-eq : goal.returns-then-eq
 returns-then-eq c = same _ _ ((slice_eq-Decides Decides-eqb _ _ _ c.eq.ensures).0 c.if-eq.true)
 
 pub returns : goal.returns
 returns c =
-    other _ _ _ (search rules) (omega arith) (omega (arith, c.saturating-add-self-2.ensures))
+    other _ _ _ (search rules) (omega arith) (omega (arith, c.saturating_add-self-2.ensures))
     (λ is. both_ways c.eq.result c.if-eq.false ((slice_eq-Decides Decides-eqb _ _ _ c.eq.ensures).1 is))

@@ -3,8 +3,8 @@ use Rattle.wire.specs.Carrying.{one_more}
 use Rattle.wire.proofs.Entries.{Sent, none_sent, too_many_sent, delivered, lost, turned, told_carries, told_count, told_memory}
 use Rattle.wire.proofs.scripted.ScriptedWireWire.carry.Goals as goal
 
-pub returns-then-is-empty : goal.returns-then-is-empty
-returns-then-is-empty c =
+pub returns-then-is_empty : goal.returns-then-is_empty
+returns-then-is_empty c =
     let self = c.args.self.now in
     let s = none_sent (vec_items self.script) self.place c.args.sent.now self.tally (search rules) in
     record {
@@ -33,7 +33,7 @@ returns-then-sent-gt67 c =
 pub returns-then-entry-eq0 : goal.returns-then-entry-eq0
 returns-then-entry-eq0 c =
     let self = c.args.self.now in
-    let next = c.next-entry-entry.ensures in
+    let next = c.next_entry-entry.ensures in
     let s = delivered (vec_items self.script) self.place c.args.sent.now self.tally (search rules) (omega arith) _ next.value (search rules) in
     record {
       carries = rw next.tally (told_carries s _ _ c.lay-then-entry-eq0.ensures.count c.lay-then-entry-eq0.ensures.memory);
@@ -47,7 +47,7 @@ returns-then-entry-eq0 c =
 pub returns-then-entry : goal.returns-then-entry
 returns-then-entry c =
     let self = c.args.self.now in
-    let next = c.next-entry-entry.ensures in
+    let next = c.next_entry-entry.ensures in
     let s = lost (vec_items self.script) self.place c.args.sent.now self.tally (search rules) (omega arith) _ next.value c.if-entry.true in
     let grown = c.grown-self-2.ensures ∙ ap one_more next.tally in
     record {
@@ -62,8 +62,8 @@ returns-then-entry c =
 pub returns : goal.returns
 returns c =
     let self = c.args.self.now in
-    let next = c.next-entry-entry.ensures in
-    let more : 0 < c.next-entry-entry.result = search rules in
+    let next = c.next_entry-entry.ensures in
+    let more : 0 < c.next_entry-entry.result = search rules in
     let s = turned (vec_items self.script) self.place c.args.sent.now self.tally (search rules) (omega arith) _ next.value more c.if-entry.false in
     let grown = c.grown-self-2.ensures ∙ ap one_more next.tally in
     record {
