@@ -14,4 +14,4 @@ put_is_overlaid memory bytes copied start same =
     ∙ ap (λ l. take start memory ++ (bytes ++ l)) (drop-drop (length bytes) start memory)
 
 pub returns : goal.returns
-returns c = put_is_overlaid c.args.memory.now c.args.bytes.now _ c.args.start c.copy-from-slice.ensures.after
+returns c = put_is_overlaid c.args.memory.now c.args.bytes.now _ c.args.start c.copy_from_slice.ensures.after

@@ -16,14 +16,14 @@ returns c =
     let m : List ℕ = vec_items v in
     let bytes : List ℕ = c.args.from.now in
     let sector : ℕ = c.args.sector in
-    let big : 512 ≤ length m = ltb-false (length m) 512 (sym c.is-blank.ensures ∙ c.if-is-blank.false) in
-    let ok : Ok tt ≡ read_answer (plain_size m) sector (length bytes) = c.in-ok-allowed.ensures ∙ ap (λ n. read_answer n sector (length bytes)) c.sector-count.ensures in
+    let big : 512 ≤ length m = ltb-false (length m) 512 (sym c.is_blank.ensures ∙ c.if-is_blank.false) in
+    let ok : Ok tt ≡ read_answer (plain_size m) sector (length bytes) = c.in_ok-allowed.ensures ∙ ap (λ n. read_answer n sector (length bytes)) c.sector_count.ensures in
     let parts = allowed_access (plain_size m) sector (length bytes) tt tt ok in
     let fits : sector * 512 + length bytes ≤ length m = omega (arith, parts.1, sector_fits m big sector parts.0) in
-    let laid : c.lay-over.new.memory ≡ overlaid m (sector * 512) bytes =
-    c.lay-over.ensures ∙ ap (λ l. overlaid l c.start-of.result bytes) c.as-mut-slice.ensures.value ∙ ap (λ n. overlaid m n bytes) c.start-of.ensures in
-    let as_long : length c.lay-over.new.memory ≡ v.len = ap length laid ∙ length_overlaid m bytes (sector * 512) fits ∙ sym v.ok.0 in
-    let after : (with_items v c.lay-over.new.memory).items ≡ overlaid m (sector * 512) bytes = with_items_is v c.lay-over.new.memory as_long ∙ laid in
+    let laid : c.lay_over.new.memory ≡ overlaid m (sector * 512) bytes =
+    c.lay_over.ensures ∙ ap (λ l. overlaid l c.start_of.result bytes) c.as_mut_slice.ensures.value ∙ ap (λ n. overlaid m n bytes) c.start_of.ensures in
+    let as_long : length c.lay_over.new.memory ≡ v.len = ap length laid ∙ length_overlaid m bytes (sector * 512) fits ∙ sym v.ok.0 in
+    let after : (with_items v c.lay_over.new.memory).items ≡ overlaid m (sector * 512) bytes = with_items_is v c.lay_over.new.memory as_long ∙ laid in
     record {
       answer = access_answer (plain_size m) sector (length bytes) Taken parts.0 parts.1 ∙ ap (write_answer (plain_size m) sector (length bytes)) (sym (big_verdict m big));
       size = ap plain_size after ∙ size_kept m bytes sector big parts.0 parts.1;
