@@ -6,9 +6,9 @@ pub returns-then-bytes-ne8 : goal.returns-then-bytes-ne8
 unfolding capacity_of
 returns-then-bytes-ne8 c = search rules
 
-pub returns-then-last-gt-HIGHEST-SECTOR : goal.returns-then-last-gt-HIGHEST-SECTOR
+pub returns-then-last-gt-HIGHEST_SECTOR : goal.returns-then-last-gt-HIGHEST_SECTOR
 unfolding capacity_of
-returns-then-last-gt-HIGHEST-SECTOR c = search rules
+returns-then-last-gt-HIGHEST_SECTOR c = search rules
 
 pub returns : goal.returns
 unfolding capacity_of

@@ -22,10 +22,10 @@ returns c =
       answer = sym (cond-true _ _ _ sendable);
       memory =
           filled c.args.self _ _ _ _ _
-          (c.copy-from-slice.ensures.after ∙ c.to-le-bytes.ensures)
-          (c.copy-from-slice-2.ensures.after ∙ c.to-le-bytes-2.ensures)
-          (c.copy-from-slice-3.ensures.after ∙ c.to-le-bytes-3.ensures)
+          (c.copy_from_slice.ensures.after ∙ c.to_le_bytes.ensures)
+          (c.copy_from_slice-2.ensures.after ∙ c.to_le_bytes-2.ensures)
+          (c.copy_from_slice-3.ensures.after ∙ c.to_le_bytes-3.ensures)
           c.flags.ensures
-          c.copy-from-slice-4.ensures.after
+          c.copy_from_slice-4.ensures.after
           ∙ sym (cond-true _ _ _ sendable);
     }

@@ -14,7 +14,7 @@ filled s first second third last f t r n = rw (f, t, r, n) refl
 pub returns : goal.returns
 returns c =
     filled c.args.self _ _ _ _
-    (c.copy-from-slice.ensures.after ∙ c.to-le-bytes.ensures)
-    (c.copy-from-slice-2.ensures.after ∙ c.to-le-bytes-2.ensures)
-    (c.copy-from-slice-3.ensures.after ∙ c.to-le-bytes-3.ensures)
+    (c.copy_from_slice.ensures.after ∙ c.to_le_bytes.ensures)
+    (c.copy_from_slice-2.ensures.after ∙ c.to_le_bytes-2.ensures)
+    (c.copy_from_slice-3.ensures.after ∙ c.to_le_bytes-3.ensures)
     c.number.ensures

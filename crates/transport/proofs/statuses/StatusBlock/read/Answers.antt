@@ -14,9 +14,9 @@ pub returns-then-residue-length : goal.returns-then-residue-length
 unfolding status_read
 returns-then-residue-length c = search rules
 
-pub returns-in-default : goal.returns-in-default
+pub returns-in_default : goal.returns-in_default
 unfolding status_read
-returns-in-default c = search rules
+returns-in_default c = search rules
 
 pub returns-in-0 : goal.returns-in-0
 unfolding status_read
