@@ -135,12 +135,12 @@ module _ (tag first count : ℕ) (bytes : List ℕ) (d : Disk) where
     stands : (from : ℕ) (e : Expectation) (v : ℕ → List ℕ → Verdict) → Standing (outward_turned t) from (index + 1) p (world from (expecting e packet_taken.taken) (written_on packet_taken.written v packet_taken.disk))
 
   -- the write is given up between two tries of a packet
-  leaves : (t : Toggles) (p index : ℕ) (o : State) (d' : Disk) (s : Step t p index o d') (from n : ℕ) (fault : Fault) (w : World) → from + 3 ≤ n → Between s.packet-taken n w → Sent from (Err fault, t) w
-  leaves t p index o d' s from n fault w l (before e) = given_up n _ fault t _ s.put-before.0 s.put-before.1 s.put-before.2 (still_attached e _ s.attached-before) l
-  leaves t p index o d' s from n fault w l (begun_only e) = given_up n _ fault t _ s.put-before.0 s.put-before.1 s.put-before.2 (still_attached e _ s.attached-begun) l
-  leaves t p index o d' s from n fault w l (after e v) = given_up n _ fault t _ (s.put-after v).0 (s.put-after v).1 (s.put-after v).2 (still_attached e _ s.attached-after) l
+  leaves : (t : Toggles) (p index : ℕ) (o : State) (d' : Disk) (s : Step t p index o d') (from n : ℕ) (fault : Fault) (w : World) → from + 3 ≤ n → Between s.packet_taken n w → Sent from (Err fault, t) w
+  leaves t p index o d' s from n fault w l (before e) = given_up n _ fault t _ s.put_before.0 s.put_before.1 s.put_before.2 (still_attached e _ s.attached_before) l
+  leaves t p index o d' s from n fault w l (begun_only e) = given_up n _ fault t _ s.put_before.0 s.put_before.1 s.put_before.2 (still_attached e _ s.attached_begun) l
+  leaves t p index o d' s from n fault w l (after e v) = given_up n _ fault t _ (s.put_after v).0 (s.put_after v).1 (s.put_after v).2 (still_attached e _ s.attached_after) l
 
-  steps : (t : Toggles) (p index : ℕ) (o : State) (d' : Disk) (s : Step t p index o d') (from : ℕ) → Later p (index + 1) (outward_turned t) → (ending : Ending (Unit {0})) (u : World) → Delivered s.packet-taken 3 from ending u
+  steps : (t : Toggles) (p index : ℕ) (o : State) (d' : Disk) (s : Step t p index o d') (from : ℕ) → Later p (index + 1) (outward_turned t) → (ending : Ending (Unit {0})) (u : World) → Delivered s.packet_taken 3 from ending u
       → (r : Result DataOver Fault × Toggles) (w' : World) → Runs (data_delivered index tag (length bytes) t (delivers_data p (index + 1) tag bytes (outward_turned t)) ending) u r w' → Sent from r w'
   steps t p index o d' s from later ending u (taken_once n e v l) r w' run = sent_later from n r w' l (later n _ (s.stands n e v) r w' run)
   steps t p index o d' s from later ending u (undelivered n cause w b l) r w' run = rw (← run.0, ← run.1) (leaves t p index o d' s from n _ w l b)
@@ -268,7 +268,7 @@ module _ (tag first count : ℕ) (bytes : List ℕ) (d : Disk) (size : length by
   sends_a_packet p index t from w (receiving k j x e d' h place sum fits holds) later r w' run =
       let s = receives_a_packet tag first count bytes d size fits t index k j x d' place holds p h sum in
       let g = halfway (delivers 3 (token Out 1 2) (data_packet t.outward (packet_in index bytes)) NoAnswer) (data_delivered index tag (length bytes) t (delivers_data p (index + 1) tag bytes (outward_turned t))) w r w' run in
-      steps tag first count bytes d t p index _ d' s from later g.result g.between (failed_deliveries_are_paid_for Out 1 2 t.outward (packet_in index bytes) s.packet-taken 3 NoAnswer from w (s.not_yet from e) g.result g.between g.first) r w' g.second
+      steps tag first count bytes d t p index _ d' s from later g.result g.between (failed_deliveries_are_paid_for Out 1 2 t.outward (packet_in index bytes) s.packet_taken 3 NoAnswer from w (s.not_yet from e) g.result g.between g.first) r w' g.second
   sends_a_packet p index t from w (refusing k residue x e d' sum holds why) later r w' run =
       let g = halfway (delivers 3 (token Out 1 2) (data_packet t.outward (packet_in index bytes)) NoAnswer) (data_delivered index tag (length bytes) t (delivers_data p (index + 1) tag bytes (outward_turned t))) w r w' run in
       refuses_a_packet tag first count bytes d t k residue d' sum holds why p index from x g.result g.between

@@ -202,7 +202,7 @@ module _ (s : State) (d : Disk) (k : DataKind) (body : List ℕ) (sector : ℕ) 
   by_phase (data_in tag due left moved source) is e = nowhere None (sector, bytes) refl e
   by_phase (data_out tag due left at come) is e =
       let known = stores (receiving_turned s.bulk.toggles) s.bulk.halts d tag due left at come body sector bytes _ refl e in
-      let same_sector : at ≡ sector = known.same-sector in
+      let same_sector : at ≡ sector = known.same_sector in
       let same_bytes : come ++ body ≡ bytes = known.same_bytes in
       let allowed : d.verdict at (come ++ body) ≡ Taken = known.allowed in
       record {

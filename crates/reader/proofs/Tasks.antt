@@ -132,7 +132,7 @@ module _ (tog : Toggles) (h : Halts) (d : Disk) (tag due left at : ℕ) (come bo
       → Agrees (Some (with_moved (cond full (cond (eqb (length (come ++ body)) 512) (counted (taken_on full).1 (t.moved + length body)) (t.moved + length body)) t.moved) t)) (taken_on full).0
   unfolding Agrees
   agree_full true is = agree_come (eqb (length (come ++ body)) 512) refl (eqb-true _ _ is)
-  agree_full false is = record { tag = u.same_tag; residue = u.still-due; sound = λ e f. wrong e; passed = λ e. wrong e }
+  agree_full false is = record { tag = u.same_tag; residue = u.still_due; sound = λ e f. wrong e; passed = λ e. wrong e }
 
   agree_data : Agrees (Some (with_moved (moved_with (needed t.plan - t.moved) come body (take_data tog h d tag due left at come body).1 t.moved) t)) (take_data tog h d tag due left at come body).0
   agree_data =
@@ -193,7 +193,7 @@ unfolding Agrees
 agree_acknowledged command b o is agree = subst (λ q. Agree q o) (sym is) agree
 agree_acknowledged (data_in tag due left moved source) b None is agree = absurd agree
 agree_acknowledged (data_in tag due left moved source) b (Some t) is agree =
-    let same : left ≡ needed t.plan - t.moved = omega (arith, agree.still-left) in
+    let same : left ≡ needed t.plan - t.moved = omega (arith, agree.still_left) in
     subst (λ n. Agrees (Some (with_moved (t.moved + min 64 n) t)) (bulk_acknowledged (data_in tag due left moved source) b)) same
     (agree_sent_on (eqb (left - min 64 left) 0) (sending_turned b.toggles) b.halts tag due left moved source t agree refl)
 agree_acknowledged (data_out tag due left sector come) b o is agree = subst (λ q. Agree q o) (sym is) agree
