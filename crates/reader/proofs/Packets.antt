@@ -1,15 +1,14 @@
 -- What a data packet does to the bytes of a sector that have come.
-use Rattle.std.proofs.Common.{◌≡◌, ℕ, ◌+◌, ◌-◌, ◌<◌, ◌≤◌, min, Bool, true, false, cond, List, [], ◌∷◌, ◌++◌, length, take, None, Ok, Err, Result, sym, refl, ap, ◌∙◌, subst, arith, length-append}
+use Rattle.std.proofs.Common.{◌≡◌, ℕ, ◌+◌, ◌-◌, ◌<◌, ◌≤◌, min, List, ◌++◌, length, take, None, Ok, Err, Result, sym, refl, ap, ◌∙◌, subst, arith, length-append}
 use borrow.Rule.Slice.PartMut.{put_mid}
-use Rattle.std.proofs.lemmas.List.{length-take-le, take_all}
 use Rattle.std.proofs.lemmas.Slice.{take-put_mid}
 use Rattle.std.proofs.lemmas.Bool.{cond-true, cond-false, eq-eqb, ne_eqb}
 use Rattle.reader.specs.declared.state.Halts.{Halts}
 use Rattle.reader.specs.declared.state.Toggles.{Toggles}
 use Rattle.reader.specs.Control.{with_bulk}
-use Rattle.reader.specs.Disk.{Disk, Written, Left}
+use Rattle.reader.specs.Disk.{Disk, Left}
 use Rattle.reader.specs.Stages.{sector_answered, come_so_far, take_data}
-use Rattle.reader.specs.State.{Bulk, State, data_out}
+use Rattle.reader.specs.State.{State, data_out}
 use Rattle.store.specs.declared.answers.StoreRefusal.{StoreRefusal}
 use Rattle.store.specs.declared.answers.Verdict.{Verdict}
 use Rattle.store.specs.declared.answers.Verdict.TheVariants.{Taken, Locked, Full}

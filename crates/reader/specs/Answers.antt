@@ -5,7 +5,6 @@ use Rattle.packet.specs.Building.{building}
 use Rattle.packet.specs.Parts.{Parts, data_packet, handshake}
 use Rattle.reader.specs.declared.answer.Answer.{Answer as Answers}
 use Rattle.reader.specs.declared.answer.Answer.TheVariants.{Nothing, Handshake, Data}
-use Rattle.reader.specs.State.{State}
 
 pub data Answer : Type 0 where
   quiet : Answer

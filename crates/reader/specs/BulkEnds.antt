@@ -1,5 +1,5 @@
 -- The bulk endpoints: 1 IN and 2 OUT.
-use Rattle.std.specs.Prelude.{ℕ, Bool, true, false, cond, List, [], None}
+use Rattle.std.specs.Prelude.{ℕ, Bool, true, false, cond, List, None}
 use Rattle.packet.specs.declared.kind.DataKind.{DataKind}
 use Rattle.packet.specs.declared.kind.DataKind.TheVariants.{Data0, Data1}
 use Rattle.packet.specs.Parts.{data_packet}

@@ -13,11 +13,10 @@ use Rattle.reader.specs.declared.state.Halts.{Halts}
 use Rattle.reader.specs.declared.state.Halts.TheVariants.{Each, Invalid}
 use Rattle.reader.specs.declared.state.Request.{Request}
 use Rattle.reader.specs.declared.state.Request.TheVariants.{SetAddress, Configure, ClearHalt, ResetTransport}
-use Rattle.reader.specs.declared.state.Toggles.{Toggles}
 use Rattle.reader.specs.declared.state.Transfer.{Transfer}
 use Rattle.reader.specs.declared.state.Transfer.TheVariants.{None, Asked, Answered, Stalled}
 use Rattle.reader.specs.Answers.{Answer, quiet, says, acks, naks, stalls}
-use Rattle.reader.specs.State.{Control, Bulk, State, Phase, command, fresh}
+use Rattle.reader.specs.State.{Control, Bulk, State, command, fresh}
 use Rattle.transport.specs.declared.blocks.DataDirection.{DataDirection}
 use Rattle.transport.specs.declared.blocks.DataDirection.TheVariants.{In as Sends, Out as Receives}
 

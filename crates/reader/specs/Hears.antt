@@ -1,5 +1,5 @@
 -- What the reader does with what it hears.
-use Rattle.std.specs.Prelude.{ℕ, Bool, true, false, cond, ◌&&◌, List, ◌==◌}
+use Rattle.std.specs.Prelude.{ℕ, cond, ◌&&◌, List, ◌==◌}
 use Rattle.packet.specs.declared.kind.DataKind.{DataKind}
 use Rattle.packet.specs.declared.kind.Handshake.{Handshake}
 use Rattle.packet.specs.declared.kind.Handshake.TheVariants.{Ack, Nak, Stall}

@@ -1,5 +1,5 @@
 -- Plans as the code holds them.
-use Rattle.std.specs.Prelude.{◌≡◌, ℕ, ◌+◌, ◌%◌, ◌≤◌}
+use Rattle.std.specs.Prelude.{◌≡◌, ◌+◌, ◌%◌, ◌≤◌}
 use Rattle.reader.specs.declared.planning.Plan.{Plan as Plans}
 use Rattle.reader.specs.declared.planning.Plan.TheVariants.{Passes, Fails, Sends, Receives}
 use Rattle.reader.specs.Stages.{Plan, passes, fails, sends, receives}

@@ -1,5 +1,5 @@
 -- The reader's state as plain values.
-use Rattle.std.specs.Prelude.{ℕ, Bool, true, false, List, [], take}
+use Rattle.std.specs.Prelude.{ℕ, Bool, false, List, take}
 use Rattle.packet.specs.declared.kind.DataKind.TheVariants.{Data0}
 use Rattle.reader.specs.declared.phase.Phase.{Phase as Phases}
 use Rattle.reader.specs.declared.phase.Phase.TheVariants.{Command, DataIn, DataOut, Status}

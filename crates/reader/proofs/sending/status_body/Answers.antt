@@ -1,5 +1,4 @@
-use Rattle.std.proofs.Common.{◌≡◌, length, take, sym, refl, ap, ◌∙◌, arith}
-use Rattle.std.proofs.lemmas.List.{take_all}
+use Rattle.std.proofs.Common.{take, ap, ◌∙◌}
 use Rattle.transport.specs.Statuses.{status_bytes}
 use Rattle.reader.proofs.sending.status_body.Goals as goal
 

@@ -1,7 +1,6 @@
-use Rattle.std.proofs.Common.{◌≡◌, ℕ, ◌+◌, ◌-◌, ◌<◌, ◌≤◌, min, List, [], ◌∷◌, ◌++◌, length, take, sym, refl, ap, ◌∙◌, subst, arith, rules}
+use Rattle.std.proofs.Common.{◌≡◌, ℕ, ◌+◌, ◌-◌, ◌<◌, ◌≤◌, min, List, ◌++◌, length, take, sym, ap, ◌∙◌, arith, rules}
 use borrow.Rule.Slice.PartMut.{put_mid}
-use Rattle.reader.specs.Control.{with_bulk}
-use Rattle.reader.specs.Disk.{disk_of, Left}
+use Rattle.reader.specs.Disk.{disk_of}
 use Rattle.reader.specs.State.{seen}
 use Rattle.store.specs.Access.{write_answer}
 use Rattle.std.proofs.lemmas.List.{length-take-le, take_all}
