@@ -1,5 +1,5 @@
 -- Bits in the opposite order.
-use Rattle.std.proofs.Common.{ℕ, zero, suc, ◌+◌, ◌*◌, ◌/◌, ◌%◌, ◌^◌, ◌<◌, pow-suc, arith}
+use Rattle.std.proofs.Common.{ℕ, zero, suc, ◌/◌, ◌%◌, ◌^◌, ◌<◌, pow-suc, arith}
 use lib.Arith.{digits_lt}
 use Rattle.packet.specs.Registers.{mirrored}
 

@@ -1,9 +1,9 @@
 -- One changed bit of a built packet gives no packet.
-use Rattle.std.proofs.Common.{◌≡◌, ℕ, zero, suc, ◌+◌, ◌-◌, ◌*◌, ◌/◌, ◌%◌, ◌^◌, ◌<◌, ◌≤◌, Bool, true, false, cond, not, eqb, leb, ◌⊎◌, List, [], ◌∷◌, ◌++◌, length, get_or, take, drop, set, Ok, Err, sym, refl, ap, ◌∙◌, subst, subst₂, inl, inr, append_assoc, append-nil, suc-add, pow-suc, zero-add, add-one, one-add, arith, lit≤, length-append, length-set, length-take, shr-shr}
+use Rattle.std.proofs.Common.{◌≡◌, ℕ, zero, suc, ◌+◌, ◌-◌, ◌*◌, ◌/◌, ◌%◌, ◌^◌, ◌<◌, ◌≤◌, Bool, true, false, cond, not, eqb, leb, List, [], ◌∷◌, ◌++◌, length, get_or, take, Err, sym, refl, ap, ◌∙◌, subst, subst₂, inl, inr, append_assoc, append-nil, suc-add, pow-suc, zero-add, add-one, one-add, arith, lit≤, length-append, length-set, length-take, shr-shr}
 use native.Mathlib.Nat.{mul-mod_left}
 use lib.Bits.{bit_xor, xor_lt, xor_shr, xor_mod, xor_zero_r}
 use lib.Pow.{pow-lt, field, mod-mod-pow}
-use Rattle.std.proofs.lemmas.List.{get_or-set_same, get_or-set_other, get_or_at, take_at}
+use Rattle.std.proofs.lemmas.List.{get_or-set_same, get_or-set_other, get_or_at}
 use Rattle.std.proofs.lemmas.Bool.{eqb-true, and_parts, leb-true, cases_eq}
 use Rattle.packet.specs.declared.kind.TokenKind.{TokenKind}
 use Rattle.packet.specs.declared.kind.TokenKind.TheVariants.{Out, In, Setup}
@@ -19,7 +19,7 @@ use Rattle.packet.specs.Kinds.{pid, kind_of_pid}
 use Rattle.packet.specs.Lawful.{Sized}
 use Rattle.packet.specs.Parts.{Parts, token, data_packet, handshake}
 use Rattle.packet.specs.Promises.{OneBit, bit_changed, OneChangedBitIsNoPacket}
-use Rattle.packet.specs.Reading.{Reading, packet, refused, reading, reading_rest, reading_token, reading_word, reading_data, reading_body}
+use Rattle.packet.specs.Reading.{packet, refused, reading, reading_rest, reading_token, reading_word, reading_data, reading_body}
 use Rattle.packet.proofs.Mirrored.{mirrored_below}
 use Rattle.packet.specs.OddGenerator.{odd_generator_is_lawful}
 use Rattle.packet.proofs.RoundTrip.{word_fields, read_by_kind, read_body_and_word, last_two}

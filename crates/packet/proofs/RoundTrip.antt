@@ -1,5 +1,5 @@
 -- Reading a built packet returns its parts, and only built packets are accepted.
-use Rattle.std.proofs.Common.{◌≡◌, ℕ, zero, suc, ◌+◌, ◌-◌, ◌*◌, ◌/◌, ◌%◌, ◌^◌, ◌<◌, ◌≤◌, Bool, true, false, cond, ◌&&◌, eqb, leb, List, [], ◌∷◌, ◌++◌, length, get_or, take, drop, Ok, Err, Result, sym, refl, ap, ◌∙◌, subst, arith, length-append, take-append-drop, length-take}
+use Rattle.std.proofs.Common.{◌≡◌, ℕ, zero, suc, ◌+◌, ◌-◌, ◌*◌, ◌/◌, ◌%◌, ◌<◌, ◌≤◌, Bool, true, false, cond, eqb, leb, List, [], ◌∷◌, ◌++◌, length, get_or, take, drop, Ok, Err, Result, sym, refl, ap, ◌∙◌, subst, arith, length-append, take-append-drop, length-take}
 use Rattle.std.proofs.lemmas.List.{take_at, get_or_at, get_or-append-add, drop_more, drop_all}
 use Rattle.std.proofs.lemmas.Bool.{eqb-true, eq-eqb, le-leb, leb-true, and_from, and_parts, cond-true}
 use Rattle.packet.specs.declared.kind.TokenKind.{TokenKind}
@@ -16,7 +16,7 @@ use Rattle.packet.specs.Building.{building, can_be_built, token_check, token_wor
 use Rattle.packet.specs.Kinds.{pid, kinds, sought, kind_of_pid}
 use Rattle.packet.specs.Parts.{Parts, token, data_packet, handshake}
 use Rattle.packet.specs.Promises.{Bytes, ReadingABuiltPacketReturnsItsParts, OnlyBuiltPacketsAreAccepted}
-use Rattle.packet.specs.Reading.{Reading, packet, refused, reading, reading_rest, reading_token, reading_word, reading_data, reading_body, reading_handshake, last_word}
+use Rattle.packet.specs.Reading.{Reading, packet, refused, reading, reading_rest, reading_token, reading_word, reading_data, reading_body, reading_handshake}
 use Rattle.packet.proofs.Mirrored.{mirrored_below}
 
 -- a first byte names its kind

@@ -1,10 +1,7 @@
 -- The kinds of packets and their first bytes.
 use Rattle.std.specs.Prelude.{ℕ, ◌+◌, ◌/◌, ◌%◌, cond, List, [], ◌∷◌, Ok, Err, Result, ◌==◌}
-use Rattle.packet.specs.declared.kind.TokenKind.{TokenKind}
 use Rattle.packet.specs.declared.kind.TokenKind.TheVariants.{Out, In, Setup}
-use Rattle.packet.specs.declared.kind.DataKind.{DataKind}
 use Rattle.packet.specs.declared.kind.DataKind.TheVariants.{Data0, Data1}
-use Rattle.packet.specs.declared.kind.Handshake.{Handshake}
 use Rattle.packet.specs.declared.kind.Handshake.TheVariants.{Ack, Nak, Stall}
 use Rattle.packet.specs.declared.kind.Kind.{Kind}
 use Rattle.packet.specs.declared.kind.Kind.TheVariants.{Token, Data, Handshake as AHandshake}

@@ -1,13 +1,13 @@
 -- A register whose generator is odd keeps the law of a register: the lowest bit that is left tells whether the
 -- generator was XORed in, and all the rest of the content can be had back.
-use Rattle.std.specs.Prelude.{◌≡◌, ℕ, zero, suc, ◌+◌, ◌-◌, ◌*◌, ◌/◌, ◌%◌, ◌^◌, ◌<◌, ◌≤◌, Bool, true, false, cond, not, bit_xor}
+use Rattle.std.specs.Prelude.{◌≡◌, ℕ, zero, suc, ◌-◌, ◌*◌, ◌/◌, ◌%◌, ◌^◌, ◌<◌, Bool, true, false, cond, bit_xor}
 use Rattle.std.proofs.Math.Path.{refl, sym, ap}
-use Rattle.std.proofs.Common.{subst, ◌∙◌, zero-le, suc-le-suc, pow-suc, mul-div_cancel, div-add-mod', not-suc-le-zero, pow_pos}
+use Rattle.std.proofs.Common.{subst, ◌∙◌, pow-suc, div-add-mod', pow_pos}
 use Rattle.std.proofs.Math.Nat.{mul-mod_left}
 use native.Mathlib.Omega.{arith}
 use Rattle.std.proofs.Math.Arith.{mod-mul}
 use Rattle.std.specs.Int.Bits.{xor_mod, xor_assoc, xor_self, xor_zero_r}
-use Rattle.std.proofs.lemmas.Nat.{div_below, mod_below}
+use Rattle.std.proofs.lemmas.Nat.{div_below}
 use Rattle.std.proofs.lemmas.Bool.{true≢false, false≢true}
 use Rattle.packet.specs.Bits.{odd}
 use Rattle.packet.specs.Lawful.{Lawful}

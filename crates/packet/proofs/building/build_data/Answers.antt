@@ -1,5 +1,4 @@
-use Rattle.std.proofs.Common.{◌≡◌, ℕ, suc, ◌+◌, ◌-◌, ◌/◌, ◌%◌, ◌<◌, ◌≤◌, true, List, [], ◌∷◌, ◌++◌, length, drop, set, replicate, Ok, sym, refl, ap, ◌∙◌, append_assoc, arith, length-append}
-use borrow.Rule.Slice.PartMut.{post_of}
+use Rattle.std.proofs.Common.{◌≡◌, ℕ, suc, ◌+◌, ◌-◌, ◌/◌, ◌%◌, ◌≤◌, true, List, [], ◌∷◌, ◌++◌, length, drop, set, replicate, Ok, sym, ap, ◌∙◌, append_assoc, arith, length-append}
 use Rattle.std.proofs.lemmas.List.{set_at, drop-replicate}
 use Rattle.std.proofs.lemmas.Bool.{le-leb, cond-true}
 use Rattle.packet.specs.declared.kind.DataKind.{DataKind}

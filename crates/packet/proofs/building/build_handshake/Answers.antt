@@ -1,4 +1,4 @@
-use Rattle.std.proofs.Common.{◌≡◌, List, [], ◌∷◌, replicate, sym, refl, ap, ◌∙◌}
+use Rattle.std.proofs.Common.{◌∷◌, replicate, refl, ap}
 use Rattle.packet.specs.Building.{building}
 use Rattle.packet.proofs.building.build_handshake.Goals as goal
 

@@ -1,4 +1,4 @@
-use Rattle.std.proofs.Common.{◌≡◌, sym, refl, ap, ◌∙◌}
+use Rattle.std.proofs.Common.{sym, ap, ◌∙◌}
 use Rattle.packet.specs.Bits.{bits}
 use Rattle.packet.specs.Registers.{finished}
 use Rattle.packet.proofs.Feeding.{fed_append}
