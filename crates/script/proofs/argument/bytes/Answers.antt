@@ -9,7 +9,7 @@ loop-word-init c = numbers_start (bytes_read (words_left c.args.words)) _ c.new-
 
 pub loop-word-preserved : goal.loop-word-preserved
 loop-word-preserved c =
-    number_more byte_read (words_left c.loop-word.words) (words_left c.next.new.self) c.in-Some.word.now c.in-Some.ensures.first c.in-Some.ensures.rest _ (vec_items c.loop-word.bytes) (vec_items c.push.new.self) c.in-Ok.byte c.loop-word.invariant c.in-Ok.ensures c.in_ok-push.ensures.items
+    number_more byte_read (words_left c.loop-word.words) (words_left c.next.new.self) c.in-Some.word.now c.in-Some.ensures.first c.in-Some.ensures.rest _ (vec_items c.loop-word.bytes) (vec_items c.push.new.self) c.in-Ok.byte c.loop-word.invariant c.in-Ok.ensures c.in_ok-push-in-Ok.ensures.items
 
 pub loop-word-smaller : goal.loop-word-smaller
 loop-word-smaller c = fewer (words_left c.loop-word.words) (words_left c.next.new.self) c.in-Some.word.now c.in-Some.ensures.first c.in-Some.ensures.rest

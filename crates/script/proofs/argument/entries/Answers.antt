@@ -10,7 +10,7 @@ loop-word-init c = numbers_start (all_read (number_read 65535) (words_left c.arg
 
 pub loop-word-preserved : goal.loop-word-preserved
 loop-word-preserved c =
-    number_more (number_read 65535) (words_left c.loop-word.words) (words_left c.next.new.self) c.in-Some.word.now c.in-Some.ensures.first c.in-Some.ensures.rest _ (vec_items c.loop-word.entries) (vec_items c.push.new.self) c.in-Ok.entry c.loop-word.invariant c.in-Ok.ensures.value c.in_ok-push.ensures.items
+    number_more (number_read 65535) (words_left c.loop-word.words) (words_left c.next.new.self) c.in-Some.word.now c.in-Some.ensures.first c.in-Some.ensures.rest _ (vec_items c.loop-word.entries) (vec_items c.push.new.self) c.in-Ok.entry c.loop-word.invariant c.in-Ok.ensures.value c.in_ok-push-in-Ok.ensures.items
 
 pub loop-word-smaller : goal.loop-word-smaller
 loop-word-smaller c = fewer (words_left c.loop-word.words) (words_left c.next.new.self) c.in-Some.word.now c.in-Some.ensures.first c.in-Some.ensures.rest
