@@ -1,7 +1,6 @@
 -- Accesses that are allowed: what is known of one, and what it is answered.
-use Rattle.std.proofs.Common.{◌≡◌, ℕ, ◌<◌, Bool, true, false, cond, eqb, ltb, Ok, Err, Result, sym, refl, ◌∙◌, arith}
+use Rattle.std.proofs.Common.{◌≡◌, ℕ, ◌<◌, Bool, true, false, cond, eqb, ltb, Ok, Err, sym, refl, ◌∙◌, arith}
 use Rattle.std.proofs.lemmas.Bool.{ltb-true, eqb-true, lt-ltb, eq-eqb, cond-true}
-use Rattle.store.specs.declared.answers.StoreRefusal.{StoreRefusal}
 use Rattle.store.specs.declared.answers.StoreRefusal.TheVariants.{PastTheEnd, WrongBuffer}
 use Rattle.store.specs.Access.{access}
 

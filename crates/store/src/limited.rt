@@ -3,8 +3,7 @@ ghost use Rattle.std.specs.Prelude.{◌≡◌, length};
 ghost use Rattle.store.specs.Access.{write_answer, write_sectors, VerdictsKept};
 ghost use Rattle.store.specs.Plain.{plain_size, plain_sectors, plain_verdict, plain_memory};
 ghost use Rattle.store.specs.Limited.{limited_verdict, left_after};
-ghost use Rattle.store.specs.PlainLaws.{plain_count, plain_lengths};
-ghost use Rattle.std.proofs.Common.{rules};
+ghost use Rattle.store.specs.PlainLaws.{plain_bounds, plain_count, plain_lengths};
 
 use super::{PlainDisk, Store, StoreRefusal, Verdict, allowed};
 
@@ -39,7 +38,7 @@ impl Store for LimitedDisk {
 
     ghost verdict = { λ l _ _. limited_verdict l.left (plain_verdict l.disk.memory.items) };
 
-    ghost bounds = { Prim.search rules };
+    ghost bounds = { λ l. plain_bounds l.disk.memory.items };
 
     ghost count = { λ l. plain_count l.disk.memory.items };
 

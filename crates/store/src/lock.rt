@@ -2,7 +2,6 @@
 ghost use Rattle.std.specs.Prelude.{◌≡◌, length};
 ghost use Rattle.store.specs.declared.answers.Verdict.TheVariants.{Locked};
 ghost use Rattle.store.specs.Access.{write_answer, write_sectors, VerdictsKept};
-ghost use Rattle.std.proofs.Common.{rules};
 
 use super::{Store, StoreRefusal, Verdict, allowed};
 
@@ -34,11 +33,11 @@ impl<S: Store> Store for Lock<S> {
 
     ghost verdict = { λ _ _ _. Locked };
 
-    ghost bounds = { Prim.search rules };
+    ghost bounds = { λ l. S.Store.bounds l.store };
 
-    ghost count = { Prim.search rules };
+    ghost count = { λ l. S.Store.count l.store };
 
-    ghost lengths = { Prim.search rules };
+    ghost lengths = { λ l i h. S.Store.lengths l.store i h };
 
     fn sector_count(&self) -> u32 {
         self.store.sector_count()

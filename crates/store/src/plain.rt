@@ -2,8 +2,7 @@
 ghost use Rattle.std.specs.Prelude.{◌≡◌, ◌+◌, ◌*◌, ◌≤◌, length, nat_lt};
 ghost use Rattle.store.specs.Access.{write_answer, write_sectors, VerdictsKept};
 ghost use Rattle.store.specs.Plain.{plain_size, plain_sectors, plain_verdict, plain_memory, overlaid};
-ghost use Rattle.store.specs.PlainLaws.{plain_count, plain_lengths};
-ghost use Rattle.std.proofs.Common.{rules};
+ghost use Rattle.store.specs.PlainLaws.{plain_bounds, plain_count, plain_lengths};
 
 use super::{BlankSector, MOST_SECTORS, SECTOR_BYTES, Store, StoreRefusal, Verdict, allowed};
 
@@ -50,7 +49,7 @@ impl Store for PlainDisk {
 
     ghost verdict = { λ d _ _. plain_verdict d.memory.items };
 
-    ghost bounds = { Prim.search rules };
+    ghost bounds = { λ d. plain_bounds d.memory.items };
 
     ghost count = { λ d. plain_count d.memory.items };
 

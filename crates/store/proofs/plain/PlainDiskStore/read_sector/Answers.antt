@@ -1,9 +1,9 @@
-use Rattle.std.proofs.Common.{◌≡◌, ℕ, ◌+◌, ◌-◌, ◌*◌, ◌<◌, ◌≤◌, List, length, take, drop, Ok, vec_items, sym, ap, ◌∙◌, arith}
+use Rattle.std.proofs.Common.{◌≡◌, ℕ, ◌+◌, ◌-◌, ◌<◌, ◌≤◌, List, length, take, drop, Ok, vec_items, sym, ap, ◌∙◌, arith}
 use Rattle.std.proofs.lemmas.Bool.{ltb-false}
 use Rattle.store.specs.Access.{read_answer}
 use Rattle.store.specs.Plain.{plain_size}
 use Rattle.store.proofs.Accesses.{allowed_access}
-use Rattle.store.specs.PlainLaws.{sector_read}
+use Rattle.store.proofs.PlainLaws.{sector_read}
 use Rattle.store.proofs.plain.PlainDiskStore.read_sector.Goals as goal
 
 -- the part of a memory from this place on that is one sector long

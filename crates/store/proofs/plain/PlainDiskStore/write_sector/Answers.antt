@@ -1,4 +1,4 @@
-use Rattle.std.proofs.Common.{◌≡◌, ℕ, ◌+◌, ◌*◌, ◌<◌, ◌≤◌, List, length, Ok, vec_items, sym, ap, ◌∙◌, arith}
+use Rattle.std.proofs.Common.{◌≡◌, ℕ, ◌+◌, ◌*◌, ◌≤◌, List, length, Ok, vec_items, sym, ap, ◌∙◌, arith}
 use Rattle.std.specs.Vec.{with_items}
 use Rattle.std.proofs.lemmas.List.{with_items_is}
 use Rattle.std.proofs.lemmas.Bool.{ltb-false}
@@ -6,8 +6,8 @@ use Rattle.store.specs.declared.answers.Verdict.TheVariants.{Taken}
 use Rattle.store.specs.Access.{read_answer, write_answer}
 use Rattle.store.specs.Plain.{plain_size, plain_sectors, overlaid}
 use Rattle.store.proofs.Accesses.{allowed_access, access_answer}
-use Rattle.store.specs.Sectors.{length_overlaid}
-use Rattle.store.specs.PlainLaws.{big_verdict, sector_fits, size_kept, sector_replaced}
+use Rattle.store.proofs.Sectors.{length_overlaid}
+use Rattle.store.proofs.PlainLaws.{big_verdict, sector_fits, size_kept, sector_replaced}
 use Rattle.store.proofs.plain.PlainDiskStore.write_sector.Goals as goal
 
 pub returns : goal.returns
