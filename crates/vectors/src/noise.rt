@@ -40,7 +40,7 @@ impl Wire for NoiseWire {
             self.tally = self.tally.saturating_add(1);
             return 0;
         }
-        if sent == [0; 67] {
+        if sent == [0; 67].as_slice() {
             return 67;
         }
         self.tally = self.tally.saturating_add(1);

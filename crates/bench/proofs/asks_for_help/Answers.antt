@@ -1,16 +1,14 @@
-use Rattle.std.proofs.Common.{◌≡◌, ℕ, ◌+◌, ◌<◌, Bool, true, false, ◌||◌, List, length, get_or, drop, string_bytes, codes, Decides, String, sym, refl, ap, ◌∙◌}
+use Rattle.std.proofs.Common.{◌≡◌, ℕ, ◌+◌, ◌<◌, Bool, true, false, ◌||◌, List, length, get_or, drop, string_bytes, codes, String, sym, refl, ap, ◌∙◌}
 use Rattle.std.specs.declared.alloc.Global.{Global}
 use Rattle.std.specs.Str.{bytes_eq}
-use Rattle.std.proofs.lemmas.Slice.Eq.{bytes_eq-Decides}
 use Rattle.std.proofs.lemmas.List.{at_drop_more, at_drop_all}
-use Rattle.std.proofs.lemmas.Bool.Decides.{same_from_decides}
 use Rattle.bench.specs.Asked.{help_asked}
 use Rattle.bench.proofs.asks_for_help.Goals as goal
 
 -- the test of one argument, and then of those after it
-asked_at : (words : List (String Global)) (i : ℕ) (word : String Global) (text : List ℕ) (r : Bool) → i < length words → word ≡ get_or words i word → text ≡ string_bytes word → Decides r (text ≡ codes "--help") → help_asked (drop i words) ≡ (r || help_asked (drop (i + 1) words))
-asked_at words i word text r inside is value decides =
-    at_drop_more help_asked words i word inside ∙ ap (λ w. bytes_eq (string_bytes w) (codes "--help") || help_asked (drop (i + 1) words)) (sym is) ∙ ap (λ t. bytes_eq t (codes "--help") || help_asked (drop (i + 1) words)) (sym value) ∙ ap (λ b. b || help_asked (drop (i + 1) words)) (sym (same_from_decides r (bytes_eq text (codes "--help")) decides (bytes_eq-Decides text (codes "--help"))))
+asked_at : (words : List (String Global)) (i : ℕ) (word : String Global) (text : List ℕ) (r : Bool) → i < length words → word ≡ get_or words i word → text ≡ string_bytes word → r ≡ bytes_eq text (codes "--help") → help_asked (drop i words) ≡ (r || help_asked (drop (i + 1) words))
+asked_at words i word text r inside is value compared =
+    at_drop_more help_asked words i word inside ∙ ap (λ w. bytes_eq (string_bytes w) (codes "--help") || help_asked (drop (i + 1) words)) (sym is) ∙ ap (λ t. bytes_eq t (codes "--help") || help_asked (drop (i + 1) words)) (sym value) ∙ ap (λ b. b || help_asked (drop (i + 1) words)) (sym compared)
 
 pub loop-argument-preserved : goal.loop-argument-preserved
 loop-argument-preserved c =

@@ -1,12 +1,11 @@
 use Rattle.std.proofs.Common.{◌≡◌, ℕ, ◌<◌, ◌≤◌, Bool, true, false, List, [], length, replicate, Decides, sym, refl, ap, ◌∙◌, subst, inl, inr, arith, rules}
 use Rattle.packet.specs.Reading.{reading}
-use Rattle.std.proofs.lemmas.Slice.Eq.{slice_eq-Decides}
+use Rattle.std.proofs.lemmas.Slice.Eq.{bytes_eq-Decides}
 use Rattle.std.proofs.lemmas.List.{nil_from_length}
 use Rattle.std.proofs.lemmas.Bool.{both_ways}
 use Rattle.wire.specs.Carrying.{NoPacket, Carried, Carries, one_more}
 use Rattle.wire.proofs.Laid.{carries_arrival, delivers, loses}
 use Rattle.vectors.proofs.noise.NoiseWireWire.carry.Goals as goal
-use Rattle.std.proofs.lemmas.Bool.Decides.{Decides-eqb}
 
 no_packet : NoPacket (replicate 67 0)
 unfolding reading
@@ -36,9 +35,9 @@ pub returns-then-sent-gt67 : goal.returns-then-sent-gt67
 returns-then-sent-gt67 c = too_many _ _ _ (omega arith) (omega (arith, c.saturating_add-self.ensures))
 
 pub returns-then-eq : goal.returns-then-eq
-returns-then-eq c = same _ _ ((slice_eq-Decides Decides-eqb _ _ _ c.eq.ensures).0 c.if-eq.true)
+returns-then-eq c = same _ _ ((bytes_eq-Decides _ _).0 (sym c.eq.ensures ∙ c.if-eq.true) ∙ c.as_slice.ensures)
 
 pub returns : goal.returns
 returns c =
     other _ _ _ (search rules) (omega arith) (omega (arith, c.saturating_add-self-2.ensures))
-    (λ is. both_ways c.eq.result c.if-eq.false ((slice_eq-Decides Decides-eqb _ _ _ c.eq.ensures).1 is))
+    (λ is. both_ways c.eq.result c.if-eq.false (c.eq.ensures ∙ (bytes_eq-Decides _ _).1 (is ∙ sym c.as_slice.ensures)))
