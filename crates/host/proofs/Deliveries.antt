@@ -1,11 +1,11 @@
 -- Failed tries of delivering a packet are paid for by spoiled packets.
-use Rattle.std.proofs.Common.{◌≡◌, ℕ, zero, suc, ◌+◌, ◌≤◌, List, sym, refl, ap, subst, arith}
+use Rattle.std.proofs.Common.{ℕ, zero, suc, ◌+◌, ◌≤◌, List, subst, arith}
 use Rattle.packet.specs.declared.kind.DataKind.{DataKind}
 use Rattle.packet.specs.declared.kind.DataKind.TheVariants.{Data0, Data1}
 use Rattle.packet.specs.declared.kind.TokenKind.TheVariants.{Out}
 use Rattle.packet.specs.Parts.{token, data_packet}
 use Rattle.reader.specs.declared.state.Expectation.{Expectation}
-use Rattle.reader.specs.declared.state.Expectation.TheVariants.{Nothing, BulkData}
+use Rattle.reader.specs.declared.state.Expectation.TheVariants.{Nothing}
 use Rattle.reader.specs.declared.state.Transfer.{Transfer}
 use Rattle.reader.specs.Answers.{acks}
 use Rattle.reader.specs.BulkEnds.{Outcome}

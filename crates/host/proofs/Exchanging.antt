@@ -1,10 +1,9 @@
 -- What one exchange comes to, from the contracts of the wire, of the reader and of the store.
-use Rattle.std.proofs.Common.{◌≡◌, ℕ, ◌+◌, ◌-◌, ◌≤◌, min, true, List, [], ◌++◌, length, take, Some, None, sym, refl, ap, ◌∙◌, subst, ap₂, subst₂, inl, inr, arith}
-use mathlib.Core.Path.{fun_ext}
+use Rattle.std.proofs.Common.{◌≡◌, ℕ, ◌-◌, min, true, List, [], ◌++◌, length, take, Some, None, sym, refl, ap, ◌∙◌, subst, subst₂, inl, inr, arith}
 use Rattle.std.proofs.lemmas.List.{take_at}
 use Rattle.packet.specs.Building.{building, can_be_built}
 use Rattle.packet.specs.Parts.{Parts}
-use Rattle.packet.specs.Reading.{Reading, reading, refused}
+use Rattle.packet.specs.Reading.{reading, refused}
 use Rattle.reader.specs.Answers.{Answer, quiet, says, answer_bytes, answer_memory}
 use Rattle.reader.specs.BulkEnds.{Outcome}
 use Rattle.reader.specs.Disk.{Disk, Written, Left}
@@ -12,11 +11,10 @@ use Rattle.reader.specs.Hears.{hears}
 use Rattle.reader.specs.Promises.{CanBeSent}
 use Rattle.reader.specs.State.{State}
 use Rattle.reader.proofs.Heard.{an_answer_is_nothing_or_a_built_packet}
-use Rattle.store.specs.declared.answers.Verdict.{Verdict}
-use Rattle.wire.specs.Carrying.{Arrives, Carried, one_more}
+use Rattle.wire.specs.Carrying.{Arrives, Carried}
 use Rattle.wire.specs.Delivery.{Delivery, delivered, spoiled, heard_of, counted}
 use Rattle.wire.proofs.Choice.{a_built_packet_is_delivered_or_spoiled}
-use Rattle.host.specs.Process.{World, Process, Runs, Bus, Stands, Performs, sends, exchange, counts, counts_home, comes_home, written_on}
+use Rattle.host.specs.Process.{World, Runs, Stands, Performs, sends, exchange, counts, counts_home, comes_home, written_on}
 
 -- a tally that stops at 255 counts as the number of spoiled packets does
 tally_counts : (n : ℕ) (f : Delivery) → counted (min 255 n) f ≡ min 255 (counts f n)

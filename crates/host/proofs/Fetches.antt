@@ -1,25 +1,23 @@
 -- Failed tries of fetching a packet are paid for by spoiled packets, or by an ACK that was spoiled before.
-use Rattle.std.proofs.Common.{◌≡◌, ℕ, zero, suc, ◌+◌, ◌≤◌, Bool, true, false, List, sym, refl, ap, ◌∙◌, subst, arith}
+use Rattle.std.proofs.Common.{◌≡◌, ℕ, zero, suc, ◌+◌, ◌≤◌, Bool, true, false, List, sym, refl, ◌∙◌, subst, arith}
 use Rattle.packet.specs.declared.kind.DataKind.{DataKind}
 use Rattle.packet.specs.declared.kind.DataKind.TheVariants.{Data0, Data1}
 use Rattle.packet.specs.declared.kind.Handshake.TheVariants.{Ack}
 use Rattle.packet.specs.declared.kind.TokenKind.TheVariants.{In}
 use Rattle.packet.specs.Parts.{token, data_packet, handshake}
-use Rattle.packet.specs.Reading.{packet}
-use Rattle.reader.specs.declared.state.Expectation.{Expectation}
 use Rattle.reader.specs.declared.state.Expectation.TheVariants.{Nothing, BulkAck}
 use Rattle.reader.specs.declared.state.Transfer.{Transfer}
-use Rattle.reader.specs.Answers.{Answer, quiet, says}
-use Rattle.reader.specs.BulkEnds.{Outcome, unwritten, turned, same_kind}
+use Rattle.reader.specs.Answers.{Answer, says}
+use Rattle.reader.specs.BulkEnds.{unwritten, turned, same_kind}
 use Rattle.reader.specs.Disk.{Disk}
-use Rattle.reader.specs.State.{State, Bulk}
+use Rattle.reader.specs.State.{State}
 use Rattle.store.specs.declared.answers.Verdict.{Verdict}
 use Rattle.wire.specs.Delivery.{Delivery, delivered, spoiled}
 use Rattle.host.specs.declared.fault.Cause.{Cause}
 use Rattle.host.specs.declared.fault.Cause.TheVariants.{Repeat}
 use Rattle.host.specs.Deliveries.{attached, world}
-use Rattle.host.specs.Fetches.{Waiting, unsent, sent_once, Fetching, Waits, level, level_sent, behind, Fetched, ended, unended, Fetches, fetched, given_up, FailedFetchesArePaidFor}
-use Rattle.host.specs.Process.{World, Process, send, done, Runs, exchange, answered}
+use Rattle.host.specs.Fetches.{sent_once, Fetching, Waits, level, level_sent, behind, ended, unended, Fetches, fetched, given_up, FailedFetchesArePaidFor}
+use Rattle.host.specs.Process.{World, done, Runs, exchange, answered}
 use Rattle.host.specs.Transactions.{Ending, passed, fetches, judged_data, judged_fetched}
 
 same_as_itself : (k : DataKind) → same_kind k k ≡ true

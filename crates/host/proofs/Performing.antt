@@ -1,6 +1,6 @@
 -- Code that performs one tree after another performs both.
-use Rattle.std.proofs.Common.{◌≡◌, sym, refl, subst, subst₂}
-use Rattle.host.specs.Process.{World, Process, done, send, reset, clear, bind, Runs, Bus, Stands, Performs}
+use Rattle.std.proofs.Common.{sym, refl, subst₂}
+use Rattle.host.specs.Process.{World, Process, done, send, reset, clear, bind, Runs, Bus, Performs}
 
 runs_both : {A B : Type 0} (p : Process A) (f : A → Process B) (w m w' : World) (a : A) (b : B) → Runs p w a m → Runs (f a) m b w' → Runs (bind p f) w b w'
 runs_both (done a0) f w m w' a b e r = subst₂ (λ x y. Runs (f x) y b w') (sym e.0) (sym e.1) r

@@ -1,9 +1,9 @@
 -- One control transfer after another, and a port reset before them.
-use Rattle.std.proofs.Common.{◌≡◌, ℕ, Ok, Err, sym, refl, ap, ◌∙◌, subst, subst₂}
+use Rattle.std.proofs.Common.{◌≡◌, ℕ, Ok, Err}
 use Rattle.reader.specs.Disk.{Disk}
 use Rattle.reader.specs.State.{State, fresh}
 use Rattle.host.specs.declared.fault.TransportFault.{TransportFault}
-use Rattle.host.specs.Process.{World, Process, done, reset, bind, Bus, Stands, Performs}
+use Rattle.host.specs.Process.{Process, done, reset, bind, Bus, Performs}
 use Rattle.host.specs.Transfers.{Transferred, after_transfer}
 use Rattle.host.proofs.Performing.{both, over}
 

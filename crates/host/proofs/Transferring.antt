@@ -13,8 +13,8 @@ use Rattle.host.specs.declared.transaction.Transacted.{Transacted}
 use Rattle.host.specs.declared.transaction.Transacted.TheVariants.{Done, Stalled}
 use Rattle.host.specs.Arrivals.{body_bytes}
 use Rattle.host.specs.Faults.{located}
-use Rattle.host.specs.Process.{Process, done, bind, Bus, Performs}
-use Rattle.host.specs.Transactions.{Ending, passed}
+use Rattle.host.specs.Process.{done, Bus, Performs}
+use Rattle.host.specs.Transactions.{passed}
 use Rattle.host.specs.Tries.{ending_seen, delivers, fetches}
 use Rattle.host.specs.Transfers.{Transferred, placed_as, reply_ended, setup_ended, transfers}
 use Rattle.host.proofs.Performing.{both, over}

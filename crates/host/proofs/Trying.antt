@@ -1,12 +1,11 @@
 -- One try after another.
-use Rattle.std.proofs.Common.{◌≡◌, ℕ, suc, ◌+◌, ◌-◌, ◌<◌, ◌≤◌, List, sym, refl, ap, subst, arith}
+use Rattle.std.proofs.Common.{◌≡◌, ℕ, suc, ◌+◌, ◌-◌, ◌<◌, ◌≤◌, List, refl, ap, subst, arith}
 use mathlib.Core.Path.{fun_ext}
 use Rattle.packet.specs.declared.kind.DataKind.{DataKind}
-use Rattle.packet.specs.declared.kind.Handshake.TheVariants.{Ack}
-use Rattle.packet.specs.Parts.{Parts, handshake}
+use Rattle.packet.specs.Parts.{Parts}
 use Rattle.packet.specs.Reading.{Reading}
 use Rattle.host.specs.declared.fault.Cause.{Cause}
-use Rattle.host.specs.declared.fault.Cause.TheVariants.{Nothing, Repeat}
+use Rattle.host.specs.declared.fault.Cause.TheVariants.{Repeat}
 use Rattle.host.specs.declared.judging.Fit.{Fit}
 use Rattle.host.specs.declared.judging.Reply.{Reply}
 use Rattle.host.specs.Process.{Process, Bus, Performs, done, send, sends, bind}

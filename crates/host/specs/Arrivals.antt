@@ -1,6 +1,6 @@
 -- What an IN is answered, as the code holds it.
 use Rattle.std.specs.Prelude.{ℕ, ◌≤◌, List, length, take}
-use Rattle.packet.specs.Parts.{Parts, token, data_packet, handshake}
+use Rattle.packet.specs.Parts.{token, data_packet, handshake}
 use Rattle.packet.specs.Reading.{Reading, packet, refused}
 use Rattle.reader.specs.declared.answer.Body.{Body}
 use Rattle.host.specs.declared.judging.Arrival.{Arrival}

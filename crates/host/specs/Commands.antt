@@ -1,5 +1,5 @@
 -- A command: its block, its data, its status.
-use Rattle.std.specs.Prelude.{ℕ, zero, suc, ◌+◌, ◌-◌, ◌*◌, ◌/◌, ◌%◌, ◌^◌, min, Bool, true, false, cond, ◌&&◌, List, [], ◌++◌, length, take, drop, replicate, Some, None, Ok, Err, Option, Result, ◌==◌}
+use Rattle.std.specs.Prelude.{ℕ, zero, suc, ◌+◌, ◌-◌, ◌*◌, ◌/◌, ◌%◌, ◌^◌, min, Bool, true, false, cond, ◌&&◌, List, ◌++◌, length, take, drop, replicate, Some, None, Ok, Err, Option, Result, ◌==◌}
 use Rattle.packet.specs.declared.kind.TokenKind.TheVariants.{Out, In}
 use Rattle.packet.specs.Parts.{token, data_packet}
 use Rattle.reader.specs.BulkEnds.{turned}
@@ -20,7 +20,6 @@ use Rattle.host.specs.declared.command.Opened.{Opened}
 use Rattle.host.specs.declared.command.DataOver.{DataOver}
 use Rattle.host.specs.declared.command.Outcome.{Outcome}
 use Rattle.host.specs.declared.command.Outcome.TheVariants.{Passed, Failed}
-use Rattle.host.specs.declared.fault.Cause.{Cause}
 use Rattle.host.specs.declared.fault.Cause.TheVariants.{Nothing, Stalled, WrongReply}
 use Rattle.host.specs.declared.fault.Fault.{Fault}
 use Rattle.host.specs.declared.fault.Stage.TheVariants.{Block, Data, Status as StatusStage}

@@ -3,7 +3,7 @@
 use Rattle.std.specs.Prelude.{◌≡◌, ℕ, ◌+◌, ◌≤◌, Bool, true, false, List}
 use Rattle.packet.specs.declared.kind.DataKind.{DataKind}
 use Rattle.packet.specs.declared.kind.TokenKind.TheVariants.{Out}
-use Rattle.packet.specs.Parts.{Parts, token, data_packet}
+use Rattle.packet.specs.Parts.{token, data_packet}
 use Rattle.reader.specs.declared.state.Addresses.TheVariants.{One}
 use Rattle.reader.specs.declared.state.Expectation.{Expectation}
 use Rattle.reader.specs.declared.state.Expectation.TheVariants.{Nothing, BulkData}
@@ -11,13 +11,13 @@ use Rattle.reader.specs.declared.state.Halts.{Halts}
 use Rattle.reader.specs.declared.state.Halts.TheVariants.{Each}
 use Rattle.reader.specs.declared.state.Transfer.{Transfer}
 use Rattle.reader.specs.Answers.{acks}
-use Rattle.reader.specs.BulkEnds.{Outcome, turned, wanted}
+use Rattle.reader.specs.BulkEnds.{turned, wanted}
 use Rattle.reader.specs.Disk.{Disk, Written}
 use Rattle.reader.specs.State.{State, Bulk, Phase}
 use Rattle.store.specs.declared.answers.Verdict.{Verdict}
 use Rattle.host.specs.declared.fault.Cause.{Cause}
 use Rattle.host.specs.Process.{World, written_on, Runs}
-use Rattle.host.specs.Transactions.{Ending, passed, stalled, gave_up, delivers}
+use Rattle.host.specs.Transactions.{Ending, passed, gave_up, delivers}
 
 -- a reader at address 1, configured
 abbrev pub attached : Transfer → Bulk → Expectation → State

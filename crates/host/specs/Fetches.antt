@@ -3,13 +3,12 @@
 use Rattle.std.specs.Prelude.{◌≡◌, ℕ, ◌+◌, ◌≤◌, Bool, true, false, List}
 use Rattle.packet.specs.declared.kind.DataKind.{DataKind}
 use Rattle.packet.specs.declared.kind.TokenKind.TheVariants.{In}
-use Rattle.packet.specs.Parts.{Parts, token, data_packet}
+use Rattle.packet.specs.Parts.{token, data_packet}
 use Rattle.reader.specs.declared.state.Expectation.{Expectation}
-use Rattle.reader.specs.declared.state.Expectation.TheVariants.{Nothing, BulkAck}
-use Rattle.reader.specs.declared.state.Halts.{Halts}
+use Rattle.reader.specs.declared.state.Expectation.TheVariants.{BulkAck}
 use Rattle.reader.specs.declared.state.Halts.TheVariants.{Each}
 use Rattle.reader.specs.declared.state.Transfer.{Transfer}
-use Rattle.reader.specs.Answers.{Answer, says}
+use Rattle.reader.specs.Answers.{says}
 use Rattle.reader.specs.BulkEnds.{turned, offered, bulk_acknowledged}
 use Rattle.reader.specs.Disk.{Disk}
 use Rattle.reader.specs.State.{State, Bulk, Phase}

@@ -18,7 +18,7 @@ use Rattle.host.specs.declared.toggles.Toggles.{Toggles}
 use Rattle.host.specs.declared.toggles.Direction.{Direction}
 use Rattle.host.specs.declared.toggles.Direction.TheVariants.{Inward, Outward}
 use Rattle.host.specs.Faults.{located, tagged}
-use Rattle.host.specs.Process.{Process, done, send, reset, bind}
+use Rattle.host.specs.Process.{Process, done, reset, bind}
 use Rattle.host.specs.Transactions.{Ending, passed, stalled, gave_up}
 use Rattle.host.specs.Tries.{delivers, fetches}
 

@@ -2,13 +2,11 @@
 use Rattle.std.specs.Prelude.{ℕ, zero, suc, Bool, true, false, List, length, Ok, Err, Result, ◌==◌}
 use Rattle.packet.specs.declared.kind.DataKind.{DataKind}
 use Rattle.packet.specs.declared.kind.Handshake.TheVariants.{Ack, Nak, Stall}
-use Rattle.packet.specs.declared.refusal.Refusal.{Refusal}
-use Rattle.packet.specs.declared.refusal.Refusal.TheVariants.{NoBytes, WrongComplement, UnknownKind, WrongLength, TooWide, WrongCheck}
 use Rattle.packet.specs.Parts.{Parts, token, data_packet, handshake}
 use Rattle.packet.specs.Reading.{Reading, packet, refused}
 use Rattle.reader.specs.BulkEnds.{same_kind}
 use Rattle.host.specs.declared.fault.Cause.{Cause}
-use Rattle.host.specs.declared.fault.Cause.TheVariants.{Nothing, Damaged, Repeat, NotReady}
+use Rattle.host.specs.declared.fault.Cause.TheVariants.{Damaged, Repeat, NotReady}
 use Rattle.host.specs.declared.fault.TransactionFault.{TransactionFault}
 use Rattle.host.specs.declared.judging.Fit.{Fit}
 use Rattle.host.specs.declared.judging.Fit.TheVariants.{Any, Exactly}

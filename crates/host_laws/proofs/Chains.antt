@@ -1,5 +1,5 @@
 -- One tree after another: what a run of both is made of.
-use Rattle.std.proofs.Common.{◌≡◌, sym, refl, subst}
+use Rattle.std.proofs.Common.{refl, subst}
 use Rattle.host.specs.Process.{World, Process, done, send, reset, clear, bind, Runs}
 
 -- what lies between a tree and the one after it

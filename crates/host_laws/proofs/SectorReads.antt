@@ -9,7 +9,7 @@ use Rattle.reader.specs.declared.state.Toggles.{Toggles as ReaderToggles}
 use Rattle.reader.specs.declared.state.Transfer.{Transfer}
 use Rattle.reader.specs.BulkEnds.{turned}
 use Rattle.reader.specs.Disk.{Disk}
-use Rattle.reader.specs.Stages.{Plan, passes, fails, sends, within, begin, over, sent_on}
+use Rattle.reader.specs.Stages.{Plan, passes, fails, sends, begin, over, sent_on}
 use Rattle.reader.specs.State.{Bulk, data_in, status}
 use Rattle.transport.specs.declared.blocks.CommandBlock.{CommandBlock}
 use Rattle.transport.specs.declared.blocks.DataDirection.TheVariants.{In as DataIn}

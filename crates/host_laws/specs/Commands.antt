@@ -1,9 +1,8 @@
 -- A command over ends that are in step, whatever is spoiled: passed, failed or given up. If it passed or failed the ends
 -- are in step again; if it was given up, three packets at least were spoiled.
-use Rattle.std.specs.Prelude.{◌≡◌, ℕ, zero, suc, ◌+◌, ◌*◌, ◌^◌, ◌<◌, ◌≤◌, ◌⊎◌, List, [], ◌∷◌, length, take, drop, Ok, Err, Result, ◌≢◌, slice_set}
+use Rattle.std.specs.Prelude.{◌≡◌, ℕ, zero, suc, ◌+◌, ◌*◌, ◌^◌, ◌<◌, ◌≤◌, List, [], ◌∷◌, length, take, drop, Ok, Err, Result, ◌≢◌, slice_set}
 use Rattle.reader.specs.Disk.{Disk, all_bytes}
 use Rattle.reader.specs.State.{State}
-use Rattle.store.specs.declared.answers.Verdict.{Verdict}
 use Rattle.store.specs.declared.answers.Verdict.TheVariants.{Taken}
 use Rattle.host.specs.declared.command.Outcome.{Outcome}
 use Rattle.host.specs.declared.command.Outcome.TheVariants.{Passed, Failed}

@@ -7,7 +7,7 @@ use Rattle.packet.specs.Reading.{packet}
 use Rattle.reader.specs.declared.state.Expectation.{Expectation}
 use Rattle.reader.specs.declared.state.Expectation.TheVariants.{Nothing}
 use Rattle.reader.specs.Answers.{acks, stalls}
-use Rattle.reader.specs.BulkEnds.{Outcome, unwritten}
+use Rattle.reader.specs.BulkEnds.{unwritten}
 use Rattle.reader.specs.Control.{expecting}
 use Rattle.reader.specs.Disk.{Disk, Written}
 use Rattle.reader.specs.Hears.{hears, awaits}

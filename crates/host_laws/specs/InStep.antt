@@ -1,5 +1,5 @@
 -- When the two ends of the link agree.
-use Rattle.std.specs.Prelude.{◌≡◌, ℕ, ◌<◌, ◌≤◌, true, false, List, [], length, slice_index_or}
+use Rattle.std.specs.Prelude.{◌≡◌, ℕ, ◌<◌, ◌≤◌, true, false, [], length, slice_index_or}
 use Rattle.packet.specs.declared.kind.DataKind.{DataKind}
 use Rattle.reader.specs.declared.state.Addresses.TheVariants.{One}
 use Rattle.reader.specs.declared.state.Expectation.{Expectation}

@@ -1,6 +1,5 @@
 -- The stages of a command, over ends that are in step: its block, and its status.
-use Rattle.std.specs.Prelude.{◌≡◌, ℕ, ◌+◌, ◌^◌, ◌<◌, ◌≤◌, true, false, List, Some, Ok, Err, Result}
-use Rattle.packet.specs.declared.kind.DataKind.{DataKind}
+use Rattle.std.specs.Prelude.{◌≡◌, ℕ, ◌+◌, ◌^◌, ◌<◌, ◌≤◌, false, Some, Ok, Err, Result}
 use Rattle.packet.specs.declared.kind.TokenKind.TheVariants.{In}
 use Rattle.packet.specs.Parts.{token}
 use Rattle.reader.specs.declared.state.Expectation.{Expectation}

@@ -1,4 +1,4 @@
-use Rattle.std.proofs.Common.{◌≡◌, Ok, Err, sym, subst, rules}
+use Rattle.std.proofs.Common.{◌≡◌, Err, subst, rules}
 use Rattle.packet.specs.declared.kind.DataKind.TheVariants.{Data0}
 use Rattle.packet.specs.declared.kind.TokenKind.TheVariants.{Setup}
 use Rattle.packet.specs.Parts.{token, data_packet}
@@ -6,7 +6,7 @@ use Rattle.host.specs.declared.fault.Cause.TheVariants.{Nothing}
 use Rattle.host.specs.Pipes.{address_number}
 use Rattle.host.specs.Process.{Performs, bus_of}
 use Rattle.host.specs.Tries.{ending_seen, delivers}
-use Rattle.host.specs.Transfers.{request_setup, transfers}
+use Rattle.host.specs.Transfers.{request_setup}
 use Rattle.host.proofs.Transferring.{given_up_at_setup, given_up_at_reply, transferred}
 use Rattle.host.proofs.control.transfer.Goals as goal
 

@@ -1,7 +1,5 @@
-use Rattle.std.proofs.Common.{◌≡◌, ℕ, ◌-◌, ◌≤◌, true, cond, List, ◌++◌, length, take, replicate, Ok, Err, Result, sym, refl, ap, ◌∙◌, subst, arith, length-append}
-use Rattle.packet.specs.declared.refusal.Refusal.{Refusal}
-use Rattle.packet.specs.declared.refusal.Refusal.TheVariants.{TooWide}
-use Rattle.packet.specs.Building.{building, can_be_built, build_answer, build_memory}
+use Rattle.std.proofs.Common.{◌≡◌, ℕ, ◌-◌, true, cond, ◌++◌, length, take, replicate, Ok, sym, ap, ◌∙◌, subst, arith, length-append}
+use Rattle.packet.specs.Building.{building, can_be_built, build_answer}
 use Rattle.packet.specs.Parts.{Parts, parts}
 use Rattle.std.proofs.lemmas.List.{take_at}
 use Rattle.host.proofs.exchange.build.Goals as goal

@@ -1,5 +1,4 @@
-use Rattle.std.proofs.Common.{◌<◌, ◌≤◌}
-use Rattle.packet.specs.Parts.{Parts, data_packet}
+use Rattle.packet.specs.Parts.{data_packet}
 use Rattle.host.specs.declared.judging.Reply.TheVariants.{Acknowledged, Stalled, Failed}
 use Rattle.host.specs.Pipes.{out_token}
 use Rattle.host.specs.Process.{bus_of}

@@ -1,4 +1,4 @@
-use Rattle.std.proofs.Common.{ℕ, ◌-◌, List}
+use Rattle.std.proofs.Common.{◌-◌}
 use Rattle.packet.specs.Parts.{data_packet}
 use Rattle.host.specs.declared.fault.Cause.TheVariants.{Nothing}
 use Rattle.host.specs.Pipes.{out_token}

@@ -1,4 +1,4 @@
-use Rattle.std.proofs.Common.{◌≡◌, ◌+◌, ◌-◌, ◌<◌, ◌≤◌, sym, subst}
+use Rattle.std.proofs.Common.{◌+◌, ◌-◌, subst}
 use Rattle.host.specs.declared.fault.Cause.{Cause}
 use Rattle.host.specs.Arrivals.{body_bytes}
 use Rattle.host.specs.Pipes.{in_token}

@@ -1,8 +1,8 @@
-use Rattle.std.proofs.Common.{◌≡◌, Ok, Err, sym, refl, ap, subst, rules}
+use Rattle.std.proofs.Common.{◌≡◌, Ok, Err, sym, refl, subst, rules}
 use Rattle.reader.specs.Disk.{disk_of}
 use Rattle.reader.specs.State.{seen}
 use Rattle.host.specs.Faults.{tagged}
-use Rattle.host.specs.Process.{Process, done, bind, Bus, Performs, bus_of}
+use Rattle.host.specs.Process.{done, bind, Performs, bus_of}
 use Rattle.host.specs.Transfers.{after_transfer, settled, attaches, transfers, address_setup, configure_setup, both_fresh}
 use Rattle.host.proofs.Settling.{stops_here, goes_on, ends_with, after_reset}
 use Rattle.host.proofs.host.Host.attach.Goals as goal

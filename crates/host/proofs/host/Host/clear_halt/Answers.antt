@@ -1,4 +1,4 @@
-use Rattle.std.proofs.Common.{◌≡◌, Ok, Err, sym, refl, ap, subst, subst₂, rules}
+use Rattle.std.proofs.Common.{◌≡◌, Ok, Err, sym, refl, subst, rules}
 use Rattle.host.specs.Process.{Performs, bus_of}
 use Rattle.host.specs.Transfers.{cleared, clears, transfers, clear_setup}
 use Rattle.host.proofs.Settling.{ends_with}

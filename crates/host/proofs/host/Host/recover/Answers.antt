@@ -1,7 +1,7 @@
-use Rattle.std.proofs.Common.{◌≡◌, Ok, Err, sym, refl, ap, subst, rules}
+use Rattle.std.proofs.Common.{◌≡◌, Ok, Err, sym, refl, subst, rules}
 use Rattle.host.specs.declared.toggles.Direction.TheVariants.{Inward, Outward}
 use Rattle.host.specs.Faults.{tagged}
-use Rattle.host.specs.Process.{Process, done, bind, Bus, Performs, bus_of}
+use Rattle.host.specs.Process.{done, bind, Performs, bus_of}
 use Rattle.host.specs.Transfers.{after_transfer, settled, recovers, transfers, reset_setup, clear_setup, both_fresh}
 use Rattle.host.proofs.Settling.{stops_here, goes_on, ends_with}
 use Rattle.host.proofs.host.Host.recover.Goals as goal
