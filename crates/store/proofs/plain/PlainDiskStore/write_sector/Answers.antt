@@ -2,16 +2,15 @@ use Rattle.std.proofs.Common.{◌≡◌, ℕ, ◌+◌, ◌*◌, ◌≤◌, List,
 use Rattle.std.specs.Vec.{with_items}
 use Rattle.std.proofs.lemmas.List.{with_items_is}
 use Rattle.std.proofs.lemmas.Bool.{ltb-false}
-use Rattle.store.specs.declared.answers.Verdict.TheVariants.{Taken}
-use Rattle.store.specs.Access.{read_answer, write_answer}
+use Rattle.store.specs.Access.{read_answer}
 use Rattle.store.specs.Plain.{plain_size, plain_sectors, overlaid}
-use Rattle.store.proofs.Accesses.{allowed_access, access_answer}
+use Rattle.store.proofs.Accesses.{allowed_access}
 use Rattle.store.proofs.Sectors.{length_overlaid}
-use Rattle.store.proofs.PlainLaws.{big_verdict, sector_fits, size_kept, sector_replaced}
+use Rattle.store.proofs.PlainLaws.{sector_fits, sector_replaced}
 use Rattle.store.proofs.plain.PlainDiskStore.write_sector.Goals as goal
 
-pub returns : goal.returns
-returns c =
+pub returns-clause-sectors : goal.returns-clause-sectors
+returns-clause-sectors c =
     let v = c.args.self.now.memory in
     let m : List ℕ = vec_items v in
     let bytes : List ℕ = c.args.from.now in
@@ -24,10 +23,4 @@ returns c =
     c.lay_over.ensures ∙ ap (λ l. overlaid l c.start_of.result bytes) c.as_mut_slice.ensures.value ∙ ap (λ n. overlaid m n bytes) c.start_of.ensures in
     let as_long : length c.lay_over.new.memory ≡ v.len = ap length laid ∙ length_overlaid m bytes (sector * 512) fits ∙ sym v.ok.0 in
     let after : (with_items v c.lay_over.new.memory).items ≡ overlaid m (sector * 512) bytes = with_items_is v c.lay_over.new.memory as_long ∙ laid in
-    record {
-      answer = access_answer (plain_size m) sector (length bytes) Taken parts.0 parts.1 ∙ ap (write_answer (plain_size m) sector (length bytes)) (sym (big_verdict m big));
-      size = ap plain_size after ∙ size_kept m bytes sector big parts.0 parts.1;
-      sectors = ap plain_sectors after ∙ sector_replaced m bytes sector big parts.0 parts.1;
-      verdicts = tt;
-      memory = after;
-    }
+    ap plain_sectors after ∙ sector_replaced m bytes sector big parts.0 parts.1
