@@ -1,6 +1,5 @@
-use Rattle.std.proofs.Common.{◌≡◌, ℕ, ◌+◌, ◌-◌, ◌<◌, ◌≤◌, List, length, take, drop, Ok, vec_items, sym, ap, ◌∙◌, arith}
+use Rattle.std.proofs.Common.{◌≡◌, ℕ, ◌+◌, ◌-◌, ◌<◌, ◌≤◌, List, length, take, drop, vec_items, sym, ap, ◌∙◌, subst, arith}
 use Rattle.std.proofs.lemmas.Bool.{ltb-false}
-use Rattle.store.specs.Access.{read_answer}
 use Rattle.store.specs.Plain.{plain_size}
 use Rattle.store.proofs.Accesses.{allowed_access}
 use Rattle.store.proofs.PlainLaws.{sector_read}
@@ -12,15 +11,13 @@ one_sector memory lent start same =
     let n : start + 512 - start ≡ 512 = omega arith in
     ap (λ l. take (start + 512 - start) (drop start l)) same ∙ ap (λ k. take k (drop start memory)) n
 
-pub returns : goal.returns
-returns c =
+pub returns-clause-memory : goal.returns-clause-memory
+returns-clause-memory c =
     let m : List ℕ = vec_items c.args.self.now.memory in
     let sector : ℕ = c.args.sector in
-    let buffer : ℕ = length c.args.into.now in
     let big : 512 ≤ length m = ltb-false (length m) 512 (sym c.is_blank.ensures ∙ c.if-is_blank.false) in
-    let ok : Ok tt ≡ read_answer (plain_size m) sector buffer = c.in_ok-allowed.ensures ∙ ap (λ n. read_answer n sector buffer) c.sector_count.ensures in
-    let there : sector < plain_size m = (allowed_access (plain_size m) sector buffer tt tt ok).0 in
-    record {
-      answer = ok;
-      memory = c.copy_from_slice.ensures.after ∙ one_sector m _ c.start_of-start.result c.deref.ensures.value ∙ ap (λ n. take 512 (drop n m)) c.start_of-start.ensures ∙ sym (sector_read m big sector there);
-    }
+    let there : sector < plain_size m = subst (λ n. sector < n) c.sector_count.ensures (allowed_access _ _ _ _ _ c.in_ok-allowed.ensures).0 in
+    c.copy_from_slice.ensures.after
+    ∙ one_sector m _ c.start_of-start.result c.deref.ensures.value
+    ∙ ap (λ n. take 512 (drop n m)) c.start_of-start.ensures
+    ∙ sym (sector_read m big sector there)
