@@ -10,8 +10,8 @@ all_of_few sent h = sym (cond-true _ _ _ (le-leb (length sent) 67 h))
 none_of_many : (sent : List ℕ) → 67 < length sent → [] ≡ all_it_may sent
 none_of_many sent h = sym (cond-false _ _ _ (lt-leb (length sent) 67 h))
 
-pub returns-then-sent-gt67 : goal.returns-then-sent-gt67
-returns-then-sent-gt67 c =
+pub returns-then-too_long : goal.returns-then-too_long
+returns-then-too_long c =
     let many : 67 < length c.args.sent.now = omega arith in
     let some : 0 < length c.args.sent.now = omega arith in
     let all = none_of_many _ many in

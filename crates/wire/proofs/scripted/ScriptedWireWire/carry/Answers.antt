@@ -3,8 +3,8 @@ use Rattle.wire.specs.Carrying.{one_more}
 use Rattle.wire.proofs.Entries.{Sent, none_sent, too_many_sent, delivered, lost, turned, told_carries, told_count, told_memory}
 use Rattle.wire.proofs.scripted.ScriptedWireWire.carry.Goals as goal
 
-pub returns-then-is_empty : goal.returns-then-is_empty
-returns-then-is_empty c =
+pub returns-then-nothing_sent : goal.returns-then-nothing_sent
+returns-then-nothing_sent c =
     let self = c.args.self.now in
     let s = none_sent (vec_items self.script) self.place c.args.sent.now self.tally (search rules) in
     record {
