@@ -1,4 +1,4 @@
-use Rattle.std.proofs.Common.{◌≡◌, ℕ, ◌-◌, Bool, false, List, take, Decides, ap, ◌∙◌, arith}
+use Rattle.std.proofs.Common.{◌≡◌, ℕ, ◌-◌, Bool, false, List, take, Decides, ap, arith}
 use Rattle.std.proofs.lemmas.Bool.{both_ways}
 use Rattle.wire.specs.Carrying.{one_more}
 use Rattle.wire.proofs.Hubs.{by_port_other}
