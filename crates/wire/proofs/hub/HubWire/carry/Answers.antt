@@ -1,4 +1,4 @@
-use Rattle.std.proofs.Common.{◌≡◌, ℕ, ◌-◌, Bool, false, List, take, Decides, ap, arith}
+use Rattle.std.proofs.Common.{◌≡◌, ℕ, ◌-◌, Bool, false, List, take, Decides, ap, arith, rules}
 use Rattle.std.proofs.lemmas.Bool.{both_ways}
 use Rattle.wire.specs.Carrying.{one_more}
 use Rattle.wire.proofs.Hubs.{by_port_other}
@@ -13,6 +13,7 @@ differs r count heard sent d fails same =
 pub returns-then-damaged-clause-carries : goal.returns-then-damaged-clause-carries
 returns-then-damaged-clause-carries g c =
     let way = c.through_port-count.ensures in
-    let other : take c.through_port-count.result c.through_port-count.new.heard ≡ c.args.sent.now → ⊥ = differs c.same-damaged.result c.through_port-count.result c.through_port-count.new.heard _ c.same-damaged.ensures c.if-damaged.true in
+    let unlike : c.same-damaged.result ≡ false = search rules in
+    let other : take c.through_port-count.result c.through_port-count.new.heard ≡ c.args.sent.now → ⊥ = differs _ _ _ _ c.same-damaged.ensures unlike in
     let grown : c.tally_spoiled.new.self.tally ≡ one_more c.args.self.now.tally = rw c.tally_spoiled.ensures (ap one_more way.tally) in
     by_port_other _ _ _ _ _ _ _ _ _ _ _ way.ways _ _ grown other
