@@ -1,8 +1,7 @@
 -- A flipped bit, in the memory and in what was sent.
-use Rattle.std.proofs.Common.{◌≡◌, ℕ, zero, suc, ◌+◌, ◌-◌, ◌*◌, ◌/◌, ◌%◌, ◌^◌, ◌<◌, ◌≤◌, List, [], ◌∷◌, ◌++◌, length, get_or, take, drop, set, replicate, sym, refl, ap, ◌∙◌, subst, arith, length-set, pow_pos}
-use lib.Bits.{bit_xor, xor_assoc, xor_self, xor_zero_r}
-use Rattle.packet.specs.Promises.{bit_changed}
-use Rattle.std.proofs.lemmas.Nat.{div_below, mod_below, one_shl}
+use Rattle.std.proofs.Common.{◌≡◌, ℕ, ◌-◌, ◌*◌, ◌/◌, ◌%◌, ◌^◌, ◌<◌, List, ◌++◌, length, get_or, take, set, replicate, sym, ap, ◌∙◌, arith, length-set, pow_pos}
+use lib.Bits.{bit_xor, xor_assoc, xor_self}
+use Rattle.std.proofs.lemmas.Nat.{mod_below, one_shl}
 use Rattle.std.proofs.lemmas.List.{set-append_left, get_or_append_left, get_or-set_same, take_at}
 use Rattle.wire.specs.Carrying.{laid}
 use Rattle.wire.specs.Scripts.{bit_of_entry, flipped}

@@ -1,8 +1,8 @@
 -- What arrives, laid into memory.
-use Rattle.std.proofs.Common.{◌≡◌, ℕ, suc, ◌+◌, ◌-◌, ◌<◌, ◌≤◌, true, false, cond, List, [], ◌∷◌, ◌++◌, length, take, drop, replicate, sym, refl, ap, ◌∙◌, subst, subst₂, inl, inr, arith}
-use Rattle.packet.specs.Reading.{reading, refused}
-use Rattle.std.proofs.lemmas.List.{take_at, drop-replicate}
-use Rattle.wire.specs.Carrying.{NoPacket, Arrives, Carried, Carries, laid, one_more}
+use Rattle.std.proofs.Common.{◌≡◌, ℕ, ◌-◌, ◌<◌, ◌≤◌, List, [], ◌∷◌, ◌++◌, length, take, replicate, sym, refl, ap, subst, subst₂, inl, inr, arith}
+use Rattle.packet.specs.Reading.{reading}
+use Rattle.std.proofs.lemmas.List.{take_at}
+use Rattle.wire.specs.Carrying.{NoPacket, Carried, Carries, laid, one_more}
 
 front : (arrival : List ℕ) → take (length arrival) (laid arrival) ≡ arrival
 front arrival = take_at arrival _ (length arrival) refl
@@ -42,3 +42,7 @@ loses sent before after some grown = record {
   none_of_too_many = λ many. refl;
   arrives = inr (λ same. absurd (omega (arith, ap length same)), nothing_is_no_packet, grown);
 }
+
+-- nothing of something arrives, and the memory is zeros
+pub carries_nothing : (sent memory : List ℕ) (before after count : ℕ) → 0 < length sent → count ≡ 0 → memory ≡ laid [] → after ≡ one_more before → Carries sent before count memory after
+carries_nothing sent memory before after count some n m grown = carries_arrival sent [] memory before after count (omega arith) (loses sent before after some grown) n m

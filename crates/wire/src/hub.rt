@@ -1,6 +1,6 @@
 // The hub: any two wires behind a port that is open or closed; itself a wire, with its own tally.
 ghost use Rattle.std.specs.Prelude.{◌≡◌, Decides};
-ghost use Rattle.wire.specs.Carrying.{Carries};
+ghost use Rattle.wire.specs.Carrying.{Carries, one_more};
 ghost use Rattle.wire.specs.Hubs.{Passes, ByPort};
 ghost use Rattle.wire.specs.declared.hub.Port.TheVariants.{Open, Closed};
 
@@ -103,6 +103,25 @@ impl<F: Wire, S: Wire> Hub<F, S> {
             }
         }
     }
+
+    // Over both wires where the port is open; a closed port lets nothing arrive.
+    fn through_port(&mut self, direction: Direction, sent: &[u8], heard: &mut [u8; 67]) -> usize
+        ensures ways { ByPort F.Wire.tally S.Wire.tally self.old.port direction sent.now self.old.first self.new.first self.old.second self.new.second result heard.new }
+        ensures port { self.new.port ≡ self.old.port }
+        ensures tally { self.new.tally ≡ self.old.tally }
+    {
+        match self.port {
+            Port::Open => self.pass(direction, sent, heard),
+            Port::Closed => lay(&[], heard),
+        }
+    }
+
+    // One more packet was spoiled between the two ends of the hub.
+    fn tally_spoiled(&mut self)
+        ensures { self.new ≡ record { first = self.old.first; second = self.old.second; port = self.old.port; tally = one_more self.old.tally } }
+    {
+        self.tally = grown(self.tally);
+    }
 }
 
 fn same(left: &[u8], right: &[u8]) -> bool
@@ -131,12 +150,10 @@ impl<F: Wire, S: Wire> Wire for Hub<F, S> {
         ensures ways { ByPort F.Wire.tally S.Wire.tally self.old.port direction sent.now self.old.first self.new.first self.old.second self.new.second result heard.new }
         ensures port { self.new.port ≡ self.old.port }
     {
-        let count = match self.port {
-            Port::Open => self.pass(direction, sent, heard),
-            Port::Closed => lay(&[], heard),
-        };
-        if !same(&heard[0..count], sent) {
-            self.tally = grown(self.tally);
+        let count = self.through_port(direction, sent, heard);
+        let damaged = !same(&heard[0..count], sent);
+        if damaged {
+            self.tally_spoiled();
         }
         count
     }

@@ -34,7 +34,8 @@ impl Wire for PerfectWire {
         ensures count { result ≡ length (all_it_may sent.now) }
         ensures memory { heard.new ≡ laid (all_it_may sent.now) }
     {
-        if sent.len() > 67 {
+        let too_long = sent.len() > 67;
+        if too_long {
             self.tally = grown(self.tally);
             return lay(&[], heard);
         }

@@ -109,7 +109,8 @@ impl Wire for ScriptedWire {
         ensures tally { self.new.tally ≡ tally_after self.old.script.items self.old.place sent.now self.old.tally }
         ensures script { self.new.script ≡ self.old.script }
     {
-        if sent.is_empty() {
+        let nothing_sent = sent.is_empty();
+        if nothing_sent {
             return lay(&[], heard);
         }
         if sent.len() > 67 {

@@ -1,4 +1,4 @@
-use Rattle.std.proofs.Common.{◌≡◌, ℕ, ◌-◌, List, [], ◌∷◌, ◌++◌, length, drop, replicate, sym, refl, ap, ◌∙◌, arith}
+use Rattle.std.proofs.Common.{◌≡◌, ℕ, ◌-◌, List, ◌++◌, length, drop, replicate, refl, ap, arith}
 use Rattle.std.proofs.lemmas.List.{drop-replicate}
 use Rattle.wire.specs.Carrying.{laid}
 use Rattle.wire.proofs.arrival.lay.Goals as goal

@@ -1,9 +1,9 @@
-use Rattle.std.proofs.Common.{◌≡◌, ℕ, ◌-◌, ◌*◌, ◌/◌, ◌%◌, ◌^◌, ◌<◌, Bool, true, false, List, [], length, get_or, take, drop, set, sym, refl, ap, ◌∙◌, subst, arith, rules}
+use Rattle.std.proofs.Common.{◌≡◌, ℕ, ◌-◌, ◌*◌, ◌/◌, ◌%◌, ◌^◌, ◌<◌, Bool, true, false, List, [], length, get_or, take, set, sym, ap, ◌∙◌, arith}
 use lib.Bits.{bit_xor}
 use Rattle.packet.specs.Reading.{reading}
 use Rattle.std.proofs.lemmas.Bool.{cond-true, cond-false}
 use Rattle.wire.specs.Carrying.{laid}
-use Rattle.wire.specs.Scripts.{is_packet, bit_of_entry, flipped, unless_packet}
+use Rattle.wire.specs.Scripts.{is_packet, flipped, unless_packet}
 use Rattle.wire.proofs.Flipping.{flipped_in_memory, flipped_in_front, length_flipped}
 use Rattle.wire.proofs.scripted.flip.Goals as goal
 
