@@ -4,7 +4,7 @@ ghost use Rattle.packet.specs.Lawful.{Sized, Lawful};
 ghost use Rattle.packet.specs.Bits.{bits, bits_of};
 ghost use Rattle.packet.specs.Registers.{all_ones, taken, fed, finished, mirrored};
 ghost use Rattle.packet.specs.OddGenerator.{odd_generator_is_lawful};
-ghost use Rattle.std.proofs.Common.{rules};
+ghost use Rattle.std.proofs.Common.{lit<, lit≤};
 
 // What a check register is made by: its width in bits and its generator.
 // Generic code knows nothing of a bound's constants, so a ghost member has the value of each, and a function of the
@@ -42,7 +42,7 @@ impl Check for Crc5 {
 
     ghost generator = { 0x05 };
 
-    ghost sized = { Prim.search rules };
+    ghost sized = { record { some = lit< tt; most = lit≤ tt; generator_fits = lit< tt } };
 
     ghost lawful = { odd_generator_is_lawful 4 0x05 refl };
 
@@ -68,7 +68,7 @@ impl Check for Crc16 {
 
     ghost generator = { 0x8005 };
 
-    ghost sized = { Prim.search rules };
+    ghost sized = { record { some = lit< tt; most = lit≤ tt; generator_fits = lit< tt } };
 
     ghost lawful = { odd_generator_is_lawful 15 0x8005 refl };
 
