@@ -1,3 +1,4 @@
 pub mod Taking
+pub mod Digits
 pub mod ReadBack
 pub mod WordsRead

@@ -1,7 +1,18 @@
 -- A word and a line taken from the front: the lemmas on `words` and `lines` that the cursors rest on.
-use Rattle.std.proofs.Common.{◌≡◌, ℕ, suc, ◌+◌, ◌<◌, min, Bool, true, false, cond, List, [], ◌∷◌, length, take, drop, Some, None, Option, sym, refl, ap, ◌∙◌, subst, one-add, arith}
+use Rattle.std.proofs.Common.{◌≡◌, ℕ, suc, ◌+◌, ◌<◌, ◌≤◌, min, Bool, true, false, cond, not, List, [], ◌∷◌, length, get_or, take, drop, Some, None, Option, sym, refl, ap, ◌∙◌, subst, one-add, arith}
 use Rattle.std.specs.List.{prefix_len}
-use Rattle.script.specs.Text.{blank, solid, onto_first, words, inner, lines, first_of, rest_of}
+use Rattle.std.proofs.lemmas.List.Sums.{prefix_len-drop_yes, prefix_len-drop_no, prefix_len-drop_all}
+use Rattle.script.specs.Text.{blank, solid, starts_solid, onto_first, words, inner, lines, first_of, rest_of}
+
+module _ (p : ℕ → Bool) (xs : List ℕ) (i : ℕ) (sofar : i + prefix_len p (drop i xs) ≡ prefix_len p xs) where
+  pub leading_again : i < length xs → p (get_or xs i 0) ≡ true → (i + 1 ≤ length xs) × (i + 1 + prefix_len p (drop (i + 1) xs) ≡ prefix_len p xs)
+  leading_again lt is = (omega arith, omega (arith, prefix_len-drop_yes p xs i 0 lt is))
+
+  pub leading_stops : i < length xs → p (get_or xs i 0) ≡ false → i ≡ prefix_len p xs
+  leading_stops lt is = omega (arith, prefix_len-drop_no p xs i 0 lt is)
+
+  pub leading_ends : length xs ≤ i → i ≡ prefix_len p xs
+  leading_ends le = omega (arith, prefix_len-drop_all p xs i le)
 
 -- a piece and what is left after it are the first and the rest of the pieces
 pub record Takes (all : List (List ℕ)) (piece : Option (List ℕ)) (left : List (List ℕ)) : Type 0 where
