@@ -1,6 +1,6 @@
 -- Bytes that are shown are read back as they were.
 use Rattle.std.proofs.Common.{◌≡◌, ℕ, ◌+◌, ◌*◌, ◌/◌, ◌%◌, ◌<◌, Bool, true, false, cond, not, List, [], ◌∷◌, ◌++◌, Ok, Err, sym, refl, ap, ◌∙◌, arith}
-use Rattle.std.specs.List.{AllByRecursion as All}
+use Rattle.std.specs.List.{AllByRecursion}
 use Rattle.std.proofs.lemmas.Bool.Decides.{nat_tests}
 use Rattle.script.specs.Arguments.{put_before}
 use Rattle.script.specs.Hex.{hex_digit, hex_value, hex_byte, after_blanks, hex_bytes, two_digits, byte_read, bytes_read, ShownBytesAreReadBack}

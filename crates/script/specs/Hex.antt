@@ -1,6 +1,6 @@
 -- Bytes as text, and words as bytes.
 use Rattle.std.specs.Prelude.{◌≡◌, ℕ, ◌+◌, ◌-◌, ◌*◌, ◌/◌, ◌%◌, ◌<◌, cond, ◌&&◌, List, [], ◌∷◌, ◌++◌, Ok, Err, codes, Result, nat_le, nat_lt}
-use Rattle.std.specs.List.{AllByRecursion as All}
+use Rattle.std.specs.List.{AllByRecursion}
 use Rattle.script.specs.declared.misread.Misread.{Misread}
 use Rattle.script.specs.declared.misread.Misread.TheVariants.{NotAByte}
 use Rattle.script.specs.Arguments.{all_read}
@@ -42,4 +42,4 @@ bytes_read ws = all_read byte_read ws
 
 -- bytes that are shown are read back as they were
 abbrev pub ShownBytesAreReadBack : Type 0
-ShownBytesAreReadBack = (b : ℕ) (bs : List ℕ) → All (λ n. n < 256) (b ∷ bs) → bytes_read (words (hex_bytes (b ∷ bs))) ≡ Ok (b ∷ bs)
+ShownBytesAreReadBack = (b : ℕ) (bs : List ℕ) → AllByRecursion (λ n. n < 256) (b ∷ bs) → bytes_read (words (hex_bytes (b ∷ bs))) ≡ Ok (b ∷ bs)
