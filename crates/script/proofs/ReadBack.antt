@@ -1,10 +1,9 @@
 -- Bytes that are shown are read back as they were.
-use Rattle.std.proofs.Common.{◌≡◌, ℕ, ◌+◌, ◌*◌, ◌/◌, ◌%◌, ◌<◌, Bool, true, false, cond, not, List, [], ◌∷◌, ◌++◌, Ok, Err, sym, refl, ap, ◌∙◌, arith}
-use Rattle.std.specs.List.{AllByRecursion}
+use Rattle.std.proofs.Common.{◌≡◌, ℕ, ◌+◌, ◌*◌, ◌/◌, ◌%◌, ◌<◌, false, List, [], ◌∷◌, Ok, refl, ap, ◌∙◌, arith}
 use Rattle.std.proofs.lemmas.Bool.Decides.{nat_tests}
 use Rattle.script.specs.Arguments.{put_before}
 use Rattle.script.specs.Hex.{hex_digit, hex_value, hex_byte, after_blanks, hex_bytes, two_digits, byte_read, bytes_read, ShownBytesAreReadBack}
-use Rattle.script.specs.Text.{blank, solid, starts_solid, onto_first, words}
+use Rattle.script.specs.Text.{blank, words}
 
 digit_solid : (n : ℕ) → n < 16 → blank (hex_digit n) ≡ false
 digit_solid n small = grind (arith, nat_tests)

@@ -1,8 +1,8 @@
 -- A word and a line taken from the front: the lemmas on `words` and `lines` that the cursors rest on.
-use Rattle.std.proofs.Common.{◌≡◌, ℕ, suc, ◌+◌, ◌<◌, ◌≤◌, min, Bool, true, false, cond, not, List, [], ◌∷◌, length, get_or, take, drop, Some, None, Option, sym, refl, ap, ◌∙◌, subst, one-add, arith}
+use Rattle.std.proofs.Common.{◌≡◌, ℕ, suc, ◌+◌, ◌<◌, ◌≤◌, min, Bool, true, false, cond, List, [], ◌∷◌, length, get_or, take, drop, Some, None, Option, sym, refl, ap, ◌∙◌, subst, one-add, arith}
 use Rattle.std.specs.List.{prefix_len}
 use Rattle.std.proofs.lemmas.List.Sums.{prefix_len-drop_yes, prefix_len-drop_no, prefix_len-drop_all}
-use Rattle.script.specs.Text.{blank, solid, starts_solid, onto_first, words, inner, lines, first_of, rest_of}
+use Rattle.script.specs.Text.{blank, solid, onto_first, words, inner, lines, first_of, rest_of}
 
 module _ (p : ℕ → Bool) (xs : List ℕ) (i : ℕ) (sofar : i + prefix_len p (drop i xs) ≡ prefix_len p xs) where
   pub leading_again : i < length xs → p (get_or xs i 0) ≡ true → (i + 1 ≤ length xs) × (i + 1 + prefix_len p (drop (i + 1) xs) ≡ prefix_len p xs)

@@ -1,5 +1,5 @@
 -- The lines of a script and the words of a line, as lists of bytes.
-use Rattle.std.specs.Prelude.{ℕ, Bool, true, false, cond, not, ◌||◌, List, [], ◌∷◌, Some, None, Option, ◌==◌}
+use Rattle.std.specs.Prelude.{ℕ, Bool, false, cond, not, ◌||◌, List, [], ◌∷◌, Some, None, Option, ◌==◌}
 use Rattle.script.specs.declared.text.Words.{Words}
 use Rattle.script.specs.declared.text.Lines.{Lines}
 

@@ -1,4 +1,4 @@
-use Rattle.std.proofs.Common.{◌≡◌, ℕ, ◌/◌, ◌%◌, ◌<◌, List, [], ◌∷◌, ◌++◌, string_bytes, refl, ap, ◌∙◌, append_assoc, arith}
+use Rattle.std.proofs.Common.{◌<◌, [], ◌∷◌, string_bytes, ap, ◌∙◌, arith}
 use lib.Utf8.{encode}
 use Rattle.script.proofs.Digits.{two_pushed}
 use Rattle.script.proofs.hex.push_byte.Goals as goal

@@ -1,4 +1,4 @@
-use Rattle.std.proofs.Common.{◌≡◌, ℕ, ◌+◌, ◌-◌, ◌*◌, ◌<◌, ◌≤◌, min, get_or, Ok, sym, refl, ap, ◌∙◌, inl, inr, arith, false-eqb}
+use Rattle.std.proofs.Common.{◌≡◌, ◌+◌, ◌-◌, ◌*◌, min, get_or, Ok, sym, ap, ◌∙◌, inl, inr, arith, false-eqb}
 use Rattle.script.proofs.Digits.{one_digit, no_digit, digits_end, number_some, limited}
 use Rattle.script.proofs.number.read_number.Goals as goal
 use Rattle.script.proofs.number.read_number.Goals.{then-digit-lt48-via-then-digit-lt48, then-digit-lt48-via-else-digit-lt48+then-digit-gt57}

@@ -1,4 +1,4 @@
-use Rattle.std.proofs.Common.{◌≡◌, ℕ, ◌≤◌, min, drop}
+use Rattle.std.proofs.Common.{◌≡◌, ℕ, min, drop}
 use Rattle.script.specs.Numbers.{number_after, number_read}
 use Rattle.script.proofs.number.read_number.Given as goal
 

@@ -1,4 +1,4 @@
-use Rattle.std.proofs.Common.{not, sym, ap, ◌∙◌}
+use Rattle.std.proofs.Common.{sym}
 use Rattle.script.specs.Text.{blank}
 use Rattle.script.proofs.Taking.{leading_again, leading_stops, leading_ends}
 use Rattle.script.proofs.text.blanks_in_front.Goals as goal

@@ -1,4 +1,4 @@
-use Rattle.std.proofs.Common.{not, ap, arith}
+use Rattle.std.proofs.Common.{not, ap}
 use Rattle.std.proofs.lemmas.Bool.{eq-eqb, ne_eqb}
 use Rattle.script.specs.Text.{inner}
 use Rattle.script.proofs.Taking.{leading_again, leading_stops, leading_ends}

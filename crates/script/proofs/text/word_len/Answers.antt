@@ -1,4 +1,4 @@
-use Rattle.std.proofs.Common.{not, sym, ap, ◌∙◌}
+use Rattle.std.proofs.Common.{not, sym, ap}
 use Rattle.script.specs.Text.{solid}
 use Rattle.script.proofs.Taking.{leading_again, leading_stops, leading_ends}
 use Rattle.script.proofs.text.word_len.Goals as goal

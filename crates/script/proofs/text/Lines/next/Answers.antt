@@ -1,5 +1,5 @@
 use Rattle.std.proofs.Common.{drop, ap, ◌∙◌, true-eqb, false-eqb}
-use Rattle.script.proofs.Taking.{Takes, no_line, a_line, past_end}
+use Rattle.script.proofs.Taking.{no_line, a_line, past_end}
 use Rattle.script.proofs.text.Lines.next.Goals as goal
 
 pub returns-then-is_empty : goal.returns-then-is_empty

@@ -1,5 +1,5 @@
 use Rattle.std.proofs.Common.{true-eqb, false-eqb}
-use Rattle.script.proofs.Taking.{Takes, no_word, a_word}
+use Rattle.script.proofs.Taking.{no_word, a_word}
 use Rattle.script.proofs.text.Words.next.Goals as goal
 
 pub returns-then-is_empty : goal.returns-then-is_empty
