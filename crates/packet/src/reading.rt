@@ -14,7 +14,8 @@ pub fn read(bytes: &[u8]) -> Result<Packet<'_>, Refusal>
     };
     match Kind::from_pid(*first)? {
         Kind::Token(kind) => {
-            let [_, low, high] = bytes else {
+            let token = bytes;
+            let [_, low, high] = token else {
                 return Err(Refusal::WrongLength);
             };
             read_token(kind, *low, *high)

@@ -10,7 +10,7 @@ use Rattle.packet.specs.Parts.{handshake}
 use Rattle.packet.specs.Reading.{reading, reading_word, reading_data, packet, refused}
 use Rattle.packet.specs.Refusals.{refusal_number}
 use Rattle.packet.proofs.reading.read.Goals as goal
-use Rattle.packet.proofs.reading.read.Goals.{in_default-bytes-via-then-bytes-lt3, in_default-bytes-via-else-bytes-lt3+else-bytes-lt4, in_default-bytes-2-via-then-bytes-lt1-2, in_default-bytes-2-via-else-bytes-lt1-2+else-bytes-lt2}
+use Rattle.packet.proofs.reading.read.Goals.{in_default-token-via-then-token-lt3, in_default-token-via-else-token-lt3+else-token-lt4, in_default-bytes-via-then-bytes-lt1-2, in_default-bytes-via-else-bytes-lt1-2+else-bytes-lt2}
 
 -- each way through the function, over the bytes as a list
 no_bytes : (s : List ℕ) → length s < 1 → refused 20 ≡ reading s
@@ -69,11 +69,11 @@ returns-in_err-kind c =
 pub returns-in-len3 : goal.returns-in-len3
 returns-in-len3 c = c.read_token.ensures ∙ a_token _ _ (search rules) (search rules)
 
-pub returns-in_default-bytes : goal.returns-in_default-bytes
-returns-in_default-bytes c =
-    let other : length c.args.bytes.now ≢ 3 = elim c.in_default-bytes.branch [
-      | in_default-bytes-via-then-bytes-lt3 w ↦ search rules
-      | in_default-bytes-via-else-bytes-lt3+else-bytes-lt4 w ↦ search rules
+pub returns-in_default-token : goal.returns-in_default-token
+returns-in_default-token c =
+    let other : length c.args.bytes.now ≢ 3 = elim c.in_default-token.branch [
+      | in_default-token-via-then-token-lt3 w ↦ search rules
+      | in_default-token-via-else-token-lt3+else-token-lt4 w ↦ search rules
     ] in
     no_token _ c.in-Token.kind (search rules) other (search rules)
 
@@ -83,10 +83,10 @@ returns-in-Data c = c.read_data.ensures ∙ a_body _ _ (search rules) (search ru
 pub returns-in-len1 : goal.returns-in-len1
 returns-in-len1 c = a_handshake _ _ (search rules) (search rules)
 
-pub returns-in_default-bytes-2 : goal.returns-in_default-bytes-2
-returns-in_default-bytes-2 c =
-    let more : 1 < length c.args.bytes.now = elim c.in_default-bytes-2.branch [
-      | in_default-bytes-2-via-then-bytes-lt1-2 w ↦ search rules
-      | in_default-bytes-2-via-else-bytes-lt1-2+else-bytes-lt2 w ↦ search rules
+pub returns-in_default-bytes : goal.returns-in_default-bytes
+returns-in_default-bytes c =
+    let more : 1 < length c.args.bytes.now = elim c.in_default-bytes.branch [
+      | in_default-bytes-via-then-bytes-lt1-2 w ↦ search rules
+      | in_default-bytes-via-else-bytes-lt1-2+else-bytes-lt2 w ↦ search rules
     ] in
     long_handshake _ c.in-Handshake.handshake more (search rules)
