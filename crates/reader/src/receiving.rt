@@ -67,7 +67,8 @@ impl Core {
             sector: receiving.sector,
             come: receiving.come,
         };
-        if end < 512 {
+        let unfinished = end < 512;
+        if unfinished {
             self.phase = Phase::DataOut(Receiving {
                 tag: rest.tag,
                 due: rest.due,

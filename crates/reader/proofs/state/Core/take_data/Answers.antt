@@ -11,8 +11,8 @@ use Rattle.reader.proofs.state.Core.take_data.Goals as goal
 come_long : (come : ℕ) (buffer : List ℕ) → come ≤ length buffer → length (take come buffer) ≡ come
 come_long come buffer h = length-take-le come buffer h
 
-pub returns-then-end-lt512 : goal.returns-then-end-lt512
-returns-then-end-lt512 g c =
+pub returns-then-unfinished : goal.returns-then-unfinished
+returns-then-unfinished g c =
     let r = c.args.receiving in
     let self = c.args.self.now in
     let within : r.come ≤ length self.buffer = search rules in
