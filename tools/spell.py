@@ -6,7 +6,7 @@ usage: python3 tools/spell.py [--check]     at the top of the repository; --chec
 Types and facts go from Failed-deliveries to FailedDeliveries; definitions, fields, constructors and lemmas from data-packet to data_packet.
 It turns whole words that specs/ and proofs/ of some crate declare or import by another name, in .antt files, in the clauses and ghost items of .rt files and in must-fail edits.
 Names that Rattle makes of the code (goals, steps) and the library's names stay, and so do comments, strings and the code itself.
-It stops where two names would fall together in one file. A second run changes nothing.
+Where two names fall together in one file it says so, and ends with status 1. A second run changes nothing.
 """
 import glob
 import re
