@@ -11,6 +11,7 @@ use reader::Reader;
 use store::Store;
 use wire::Wire;
 
+#[derive(Drop)]
 pub struct Host {
     pub(crate) toggles: Toggles,
     pub(crate) tag: u32,
