@@ -1,6 +1,7 @@
 -- The kinds of packets and their first bytes.
-use Rattle.std.specs.Prelude.{ℕ, ◌+◌, ◌/◌, ◌%◌, cond, List, [], ◌∷◌, Ok, Err, Result, ◌==◌}
+use Rattle.std.specs.Prelude.{ℕ, ◌+◌, ◌/◌, ◌%◌, Bool, true, false, cond, List, [], ◌∷◌, Ok, Err, Result, ◌==◌}
 use Rattle.packet.specs.declared.kind.TokenKind.TheVariants.{Out, In, Setup}
+use Rattle.packet.specs.declared.kind.DataKind.{DataKind}
 use Rattle.packet.specs.declared.kind.DataKind.TheVariants.{Data0, Data1}
 use Rattle.packet.specs.declared.kind.Handshake.TheVariants.{Ack, Nak, Stall}
 use Rattle.packet.specs.declared.kind.Kind.{Kind}
@@ -30,3 +31,15 @@ sought (k ∷ ks) b = cond (b == pid k) (Ok k) (sought ks b)
 -- a first byte names a kind: its high half is the complement of its low half, and the kind is listed
 abbrev pub kind_of_pid : ℕ → Result Kind Refusal
 kind_of_pid b = cond (b / 16 + b % 16 == 15) (sought kinds b) (Err WrongComplement)
+
+-- the other kind of data
+abbrev pub turned : DataKind → DataKind
+turned Data0 = Data1
+turned Data1 = Data0
+
+-- two kinds of data are one; the derived `==` answers this
+abbrev pub same_kind : DataKind → DataKind → Bool
+same_kind Data0 Data0 = true
+same_kind Data0 Data1 = false
+same_kind Data1 Data0 = false
+same_kind Data1 Data1 = true

@@ -1,6 +1,6 @@
 // The kinds of packets, and the first byte (the packet identifier, PID) by which each is known.
 ghost use Rattle.std.specs.Prelude.{◌≡◌};
-ghost use Rattle.packet.specs.Kinds.{pid, kind_of_pid};
+ghost use Rattle.packet.specs.Kinds.{pid, kind_of_pid, turned};
 
 use super::Refusal;
 
@@ -15,6 +15,18 @@ pub enum TokenKind {
 pub enum DataKind {
     Data0,
     Data1,
+}
+
+impl DataKind {
+    // The other kind, which the next data of an endpoint have.
+    pub fn toggled(self) -> DataKind
+        ensures { result ≡ turned self }
+    {
+        match self {
+            DataKind::Data0 => DataKind::Data1,
+            DataKind::Data1 => DataKind::Data0,
+        }
+    }
 }
 
 #[derive(Clone, Copy, PartialEq, Eq)]
