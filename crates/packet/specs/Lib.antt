@@ -8,3 +8,4 @@ pub mod Building
 pub mod Reading
 pub mod Promises
 pub mod OddGenerator
+pub mod Bodies

@@ -1,6 +1,7 @@
 // Packets of a USB bus: their kinds, their checks, building them into bytes and reading them from bytes.
 #![tactic(auto)]
 
+mod body;
 mod building;
 mod check;
 mod kind;
@@ -10,6 +11,7 @@ mod reading;
 mod refusal;
 mod register;
 
+pub use body::Body;
 pub use check::{body_check, token_check};
 pub use kind::{DataKind, Handshake, Kind, TokenKind};
 pub use packet::Packet;
