@@ -1,5 +1,6 @@
 pub mod Refusals
 pub mod Kinds
+pub mod Names
 pub mod Parts
 pub mod Bits
 pub mod Registers

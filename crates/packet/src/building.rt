@@ -41,7 +41,7 @@ fn build_token(
         + u16::from(endpoint) * 128
         + token_check(address, endpoint) * 2048;
     *out = [0; 67];
-    out[0] = Kind::Token(kind).pid();
+    out[0] = u8::from(Kind::Token(kind));
     out[1] = (word % 256) as u8;
     out[2] = (word / 256) as u8;
     Ok(3)
@@ -57,7 +57,7 @@ fn build_data(kind: DataKind, body: &[u8], out: &mut [u8; 67]) -> Result<usize, 
     }
     let check = body_check(body);
     *out = [0; 67];
-    out[0] = Kind::Data(kind).pid();
+    out[0] = u8::from(Kind::Data(kind));
     out[1..length + 1].copy_from_slice(body);
     out[length + 1] = (check % 256) as u8;
     out[length + 2] = (check / 256) as u8;
@@ -69,6 +69,6 @@ fn build_handshake(kind: Handshake, out: &mut [u8; 67]) -> Result<usize, Refusal
     ensures memory { out.new ≡ build_memory (handshake kind) out.old }
 {
     *out = [0; 67];
-    out[0] = Kind::Handshake(kind).pid();
+    out[0] = u8::from(Kind::Handshake(kind));
     Ok(1)
 }

@@ -1,14 +1,28 @@
-// The kinds of packets, and the first byte (the packet identifier, PID) by which each is known.
-ghost use Rattle.std.specs.Prelude.{◌≡◌};
+// The kinds of packets, the name of each, and the first byte (the packet identifier, PID) by which it is known.
+ghost use Rattle.std.specs.Prelude.{◌≡◌, Some};
 ghost use Rattle.packet.specs.Kinds.{pid, kind_of_pid, turned};
+ghost use Rattle.packet.specs.Names.{token_kind_name, data_kind_name, handshake_name};
 
 use super::Refusal;
+use std::fmt;
 
 #[derive(Clone, Copy, PartialEq, Eq)]
 pub enum TokenKind {
     Out,
     In,
     Setup,
+}
+
+impl fmt::Display for TokenKind {
+    ghost output = { λ kind. Some (token_kind_name kind) };
+
+    fn fmt<W: fmt::Write>(&self, f: &mut fmt::Formatter<W>) -> fmt::Result {
+        f.write_str(match self {
+            TokenKind::Out => "OUT",
+            TokenKind::In => "IN",
+            TokenKind::Setup => "SETUP",
+        })
+    }
 }
 
 #[derive(Clone, Copy, PartialEq, Eq)]
@@ -29,11 +43,34 @@ impl DataKind {
     }
 }
 
+impl fmt::Display for DataKind {
+    ghost output = { λ kind. Some (data_kind_name kind) };
+
+    fn fmt<W: fmt::Write>(&self, f: &mut fmt::Formatter<W>) -> fmt::Result {
+        f.write_str(match self {
+            DataKind::Data0 => "DATA0",
+            DataKind::Data1 => "DATA1",
+        })
+    }
+}
+
 #[derive(Clone, Copy, PartialEq, Eq)]
 pub enum Handshake {
     Ack,
     Nak,
     Stall,
+}
+
+impl fmt::Display for Handshake {
+    ghost output = { λ handshake. Some (handshake_name handshake) };
+
+    fn fmt<W: fmt::Write>(&self, f: &mut fmt::Formatter<W>) -> fmt::Result {
+        f.write_str(match self {
+            Handshake::Ack => "ACK",
+            Handshake::Nak => "NAK",
+            Handshake::Stall => "STALL",
+        })
+    }
 }
 
 #[derive(Clone, Copy)]
@@ -43,12 +80,12 @@ pub enum Kind {
     Handshake(Handshake),
 }
 
-impl Kind {
+impl From<Kind> for u8 {
+    ghost from_gives = { λ kind byte. byte ≡ pid kind };
+
     // The first byte of a packet of this kind: the kind in the low four bits, their complement above.
-    pub fn pid(self) -> u8
-        ensures { result ≡ pid self }
-    {
-        match self {
+    fn from(kind: Kind) -> u8 {
+        match kind {
             Kind::Token(TokenKind::Out) => 0xe1,
             Kind::Token(TokenKind::In) => 0x69,
             Kind::Token(TokenKind::Setup) => 0x2d,
@@ -59,11 +96,15 @@ impl Kind {
             Kind::Handshake(Handshake::Stall) => 0x1e,
         }
     }
+}
+
+impl TryFrom<u8> for Kind {
+    type Error = Refusal;
+
+    ghost try_from_gives = { λ byte result. result ≡ kind_of_pid byte };
 
     // The kind that a first byte names.
-    pub fn from_pid(byte: u8) -> Result<Kind, Refusal>
-        ensures { result ≡ kind_of_pid byte }
-    {
+    fn try_from(byte: u8) -> Result<Kind, Refusal> {
         if byte / 16 + byte % 16 != 15 {
             return Err(Refusal::WrongComplement);
         }
@@ -78,5 +119,19 @@ impl Kind {
             0x1e => Ok(Kind::Handshake(Handshake::Stall)),
             _ => Err(Refusal::UnknownKind),
         }
+    }
+}
+
+impl Kind {
+    pub fn pid(self) -> u8
+        ensures { result ≡ pid self }
+    {
+        u8::from(self)
+    }
+
+    pub fn from_pid(byte: u8) -> Result<Kind, Refusal>
+        ensures { result ≡ kind_of_pid byte }
+    {
+        Kind::try_from(byte)
     }
 }

@@ -12,7 +12,7 @@ pub fn read(bytes: &[u8]) -> Result<Packet<'_>, Refusal>
     let [first, rest @ ..] = bytes else {
         return Err(Refusal::NoBytes);
     };
-    match Kind::from_pid(*first)? {
+    match Kind::try_from(*first)? {
         Kind::Token(kind) => {
             let token = bytes;
             let [_, low, high] = token else {

@@ -41,5 +41,5 @@ returns c =
     let short : length c.args.body.now ≤ 64 = omega arith in
     record {
       answer = answered c.args.kind _ short;
-      memory = filled c.args.kind _ short _ _ _ _ c.pid.ensures c.body_check-check.ensures c.copy_from_slice.ensures.after;
+      memory = filled c.args.kind _ short _ _ _ _ c.from.ensures c.body_check-check.ensures c.copy_from_slice.ensures.after;
     }

@@ -4,4 +4,4 @@ use Rattle.packet.proofs.building.build_handshake.Goals as goal
 
 pub returns : goal.returns
 unfolding building
-returns c = record { answer = refl; memory = ap (λ b. b ∷ replicate 66 0) c.pid.ensures }
+returns c = record { answer = refl; memory = ap (λ b. b ∷ replicate 66 0) c.from.ensures }

@@ -47,5 +47,5 @@ returns c =
     let low : c.args.endpoint ≤ 15 = omega arith in
     record {
       answer = answered c.args.kind _ _ narrow low;
-      memory = filled c.args.kind _ _ narrow low _ _ _ _ _ c.pid.ensures (search rules) (search rules) c.token_check.ensures;
+      memory = filled c.args.kind _ _ narrow low _ _ _ _ _ c.from-3.ensures (search rules) (search rules) c.token_check.ensures;
     }
