@@ -40,6 +40,10 @@ can_be_built (handshake h) = true
 abbrev pub build_answer : Parts → Result ℕ Refusal
 build_answer p = cond (can_be_built p) (Ok (length (building p))) (Err TooWide)
 
--- what the 67 bytes of memory hold then: the packet in front and zeros behind, or what they held before
+-- 67 bytes of memory with the packet in front and zeros behind
+abbrev pub built_memory : Parts → List ℕ
+built_memory p = building p ++ replicate (67 - length (building p)) 0
+
+-- what the memory holds then: the packet, or what it held before
 abbrev pub build_memory : Parts → List ℕ → List ℕ
-build_memory p before = cond (can_be_built p) (building p ++ replicate (67 - length (building p)) 0) before
+build_memory p before = cond (can_be_built p) (built_memory p) before

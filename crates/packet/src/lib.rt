@@ -10,6 +10,7 @@ mod promises;
 mod reading;
 mod refusal;
 mod register;
+mod well_formed;
 
 pub use body::Body;
 pub use check::{body_check, token_check};
@@ -23,3 +24,4 @@ pub use promises::{
 pub use reading::read;
 pub use refusal::Refusal;
 pub use register::{Check, Crc5, Crc16, Register};
+pub use well_formed::WellFormed;
