@@ -4,4 +4,5 @@ pub mod Blocks
 pub mod Statuses
 pub mod Commands
 pub mod Capacity
+pub mod Toggles
 pub mod Promises

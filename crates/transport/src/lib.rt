@@ -8,6 +8,7 @@ mod numbers;
 mod promises;
 mod refusals;
 mod statuses;
+mod toggles;
 
 pub use blocks::{CommandBlock, DataDirection};
 pub use capacity::{capacity_reply, read_capacity};
@@ -20,3 +21,4 @@ pub use promises::{
 };
 pub use refusals::TransportRefusal;
 pub use statuses::{Status, StatusBlock};
+pub use toggles::Toggles;
