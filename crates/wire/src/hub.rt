@@ -1,7 +1,7 @@
 // The hub: any two wires behind a port that is open or closed; itself a wire, with its own tally.
-ghost use Rattle.std.specs.Prelude.{◌≡◌, Decides};
+ghost use Rattle.std.specs.Prelude.{◌≡◌};
 ghost use Rattle.wire.specs.Carrying.{Carries, one_more};
-ghost use Rattle.wire.specs.Hubs.{Passes, ByPort};
+ghost use Rattle.wire.specs.Hubs.{Passes, ByPort, with_first, with_second, with_port, with_tally};
 ghost use Rattle.wire.specs.declared.hub.Port.TheVariants.{Open, Closed};
 
 use super::arrival::{grown, lay};
@@ -42,25 +42,26 @@ impl<F: Wire, S: Wire> Hub<F, S> {
         ensures first { result.0 ≡ self.first }
         ensures second { result.1 ≡ self.second }
     {
-        let Hub {
-            first,
-            second,
-            port,
-            tally,
-        } = self;
+        let Hub { first, second, .. } = self;
         (first, second)
     }
 
-    pub fn open(&mut self)
-        ensures { self.new ≡ record { first = self.old.first; second = self.old.second; port = Open; tally = self.old.tally } }
+    pub fn set_port(&mut self, port: Port)
+        ensures { self.new ≡ with_port port self.old }
     {
-        self.port = Port::Open;
+        self.port = port;
+    }
+
+    pub fn open(&mut self)
+        ensures { self.new ≡ with_port Open self.old }
+    {
+        self.set_port(Port::Open);
     }
 
     pub fn close(&mut self)
-        ensures { self.new ≡ record { first = self.old.first; second = self.old.second; port = Closed; tally = self.old.tally } }
+        ensures { self.new ≡ with_port Closed self.old }
     {
-        self.port = Port::Closed;
+        self.set_port(Port::Closed);
     }
 
     pub fn port(&self) -> Port
@@ -69,10 +70,11 @@ impl<F: Wire, S: Wire> Hub<F, S> {
         self.port
     }
 
-    // Puts another wire in the place of the first, and hands the old one back.
+    // Puts another wire in the place of the first, and hands the old one back. The two wires differ in their types, so
+    // no one function could return either.
     pub fn exchange_first(&mut self, wire: F) -> F
         ensures old { result ≡ self.old.first }
-        ensures after { self.new ≡ record { first = wire; second = self.old.second; port = self.old.port; tally = self.old.tally } }
+        ensures after { self.new ≡ with_first wire self.old }
     {
         mem::replace(&mut self.first, wire)
     }
@@ -80,7 +82,7 @@ impl<F: Wire, S: Wire> Hub<F, S> {
     // Puts another wire in the place of the second, and hands the old one back.
     pub fn exchange_second(&mut self, wire: S) -> S
         ensures old { result ≡ self.old.second }
-        ensures after { self.new ≡ record { first = self.old.first; second = wire; port = self.old.port; tally = self.old.tally } }
+        ensures after { self.new ≡ with_second wire self.old }
     {
         mem::replace(&mut self.second, wire)
     }
@@ -118,16 +120,10 @@ impl<F: Wire, S: Wire> Hub<F, S> {
 
     // One more packet was spoiled between the two ends of the hub.
     fn tally_spoiled(&mut self)
-        ensures { self.new ≡ record { first = self.old.first; second = self.old.second; port = self.old.port; tally = one_more self.old.tally } }
+        ensures { self.new ≡ with_tally (one_more self.old.tally) self.old }
     {
         self.tally = grown(self.tally);
     }
-}
-
-fn same(left: &[u8], right: &[u8]) -> bool
-    ensures { Decides result (left.now ≡ right.now) }
-{
-    left == right
 }
 
 impl<F: Wire, S: Wire> Wire for Hub<F, S> {
@@ -136,7 +132,7 @@ impl<F: Wire, S: Wire> Wire for Hub<F, S> {
     // The wires' own tallies are left alone.
     fn clear(&mut self)
         ensures tally { self.new.tally ≡ 0 }
-        ensures after { self.new ≡ record { first = self.old.first; second = self.old.second; port = self.old.port; tally = 0 } }
+        ensures after { self.new ≡ with_tally 0 self.old }
     {
         self.tally = 0;
     }
@@ -151,7 +147,7 @@ impl<F: Wire, S: Wire> Wire for Hub<F, S> {
         ensures port { self.new.port ≡ self.old.port }
     {
         let count = self.through_port(direction, sent, heard);
-        let damaged = !same(&heard[0..count], sent);
+        let damaged = &heard[..count] != sent;
         if damaged {
             self.tally_spoiled();
         }

@@ -31,12 +31,7 @@ impl ScriptedWire {
     pub fn into_script(self) -> Vec<u16>
         ensures { result ≡ self.script }
     {
-        let ScriptedWire {
-            script,
-            place,
-            tally,
-        } = self;
-        script
+        self.script
     }
 
     // How many entries have been used.
