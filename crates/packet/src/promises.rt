@@ -21,7 +21,7 @@ pub fn only_built_packets_are_accepted()
 
 // For every register that keeps the law of a register.
 pub fn one_changed_bit_gives_a_wrong_check<R: Check>()
-    ensures { OneChangedBitGivesAWrongCheck R.Check.width R.Check.generator }
+    ensures { OneChangedBitGivesAWrongCheck R.WIDTH R.GENERATOR }
 {}
 
 pub fn one_changed_bit_is_no_packet()

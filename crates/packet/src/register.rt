@@ -7,26 +7,18 @@ ghost use Rattle.packet.specs.OddGenerator.{odd_generator_is_lawful};
 ghost use Rattle.std.proofs.Common.{lit<, lit≤};
 
 // What a check register is made by: its width in bits and its generator.
-// Generic code knows nothing of a bound's constants, so a ghost member has the value of each, and a function of the
-// impl ties the two.
 pub trait Check {
     const WIDTH: u32;
 
     const GENERATOR: u16;
 
-    ghost width: { ℕ };
+    ghost WIDTH: { ℕ };
 
-    ghost generator: { ℕ };
+    ghost GENERATOR: { ℕ };
 
-    fn width_value() -> u32
-        ensures { result ≡ width };
+    ghost sized: { Sized WIDTH GENERATOR };
 
-    fn generator_value() -> u16
-        ensures { result ≡ generator };
-
-    ghost sized: { Sized width generator };
-
-    ghost lawful: { Lawful width generator };
+    ghost lawful: { Lawful WIDTH GENERATOR };
 }
 
 // The check of tokens.
@@ -38,21 +30,13 @@ impl Check for Crc5 {
 
     const GENERATOR: u16 = 0x05;
 
-    ghost width = { 5 };
+    ghost WIDTH = { 5 };
 
-    ghost generator = { 0x05 };
+    ghost GENERATOR = { 0x05 };
 
     ghost sized = { record { some = lit< tt; most = lit≤ tt; generator_fits = lit< tt } };
 
     ghost lawful = { odd_generator_is_lawful 4 0x05 refl };
-
-    fn width_value() -> u32 {
-        Self::WIDTH
-    }
-
-    fn generator_value() -> u16 {
-        Self::GENERATOR
-    }
 }
 
 // The check of bodies.
@@ -64,21 +48,13 @@ impl Check for Crc16 {
 
     const GENERATOR: u16 = 0x8005;
 
-    ghost width = { 16 };
+    ghost WIDTH = { 16 };
 
-    ghost generator = { 0x8005 };
+    ghost GENERATOR = { 0x8005 };
 
     ghost sized = { record { some = lit< tt; most = lit≤ tt; generator_fits = lit< tt } };
 
     ghost lawful = { odd_generator_is_lawful 15 0x8005 refl };
-
-    fn width_value() -> u32 {
-        Self::WIDTH
-    }
-
-    fn generator_value() -> u16 {
-        Self::GENERATOR
-    }
 }
 
 // A register in use: its content, and the rule by which it takes bits.
@@ -91,7 +67,7 @@ pub struct Register<R: Check> {
 impl<R: Check> Register<R> {
     // A register starts as all ones.
     pub fn new(rule: R) -> Self
-        ensures { result.content ≡ all_ones R.Check.width }
+        ensures { result.content ≡ all_ones R.WIDTH }
     {
         Register {
             content: ones::<R>(),
@@ -101,12 +77,12 @@ impl<R: Check> Register<R> {
 
     // One bit taken: the content moves up one place, and the generator is XORed in if the bit dropped differs.
     pub fn take_bit(&mut self, bit: bool)
-        ensures { self.new.content ≡ taken R.Check.width R.Check.generator self.old.content bit }
+        ensures { self.new.content ≡ taken R.WIDTH R.GENERATOR self.old.content bit }
     {
-        let top = (self.content >> (R::width_value() - 1)) % 2 == 1;
+        let top = (self.content >> (R::WIDTH - 1)) % 2 == 1;
         let moved_up = (self.content << 1) & ones::<R>();
         self.content = if top != bit {
-            moved_up ^ R::generator_value()
+            moved_up ^ R::GENERATOR
         } else {
             moved_up
         };
@@ -114,7 +90,7 @@ impl<R: Check> Register<R> {
 
     // The lowest bits of a number, so many of them, the lowest first.
     pub fn take_low_bits(&mut self, number: u8, count: u8)
-        ensures { self.new.content ≡ fed R.Check.width R.Check.generator self.old.content (bits count number) }
+        ensures { self.new.content ≡ fed R.WIDTH R.GENERATOR self.old.content (bits count number) }
     {
         let mut rest = number;
         for _i in 0..count {
@@ -125,7 +101,7 @@ impl<R: Check> Register<R> {
 
     // Bytes in turn, the low bit of each first.
     pub fn take_bytes(&mut self, bytes: &[u8])
-        ensures { self.new.content ≡ fed R.Check.width R.Check.generator self.old.content (bits_of bytes.now) }
+        ensures { self.new.content ≡ fed R.WIDTH R.GENERATOR self.old.content (bits_of bytes.now) }
     {
         for byte in bytes {
             self.take_low_bits(*byte, 8);
@@ -134,29 +110,23 @@ impl<R: Check> Register<R> {
 
     // The check that is left: the content complemented, its top bit in the lowest bit of the check field.
     pub fn check(&self) -> u16
-        ensures { result ≡ finished R.Check.width self.now.content }
+        ensures { result ≡ finished R.WIDTH self.now.content }
     {
-        mirror(self.content ^ ones::<R>(), R::width_value())
+        mirror(self.content ^ ones::<R>(), R::WIDTH)
     }
 }
 
-// The lowest so many bits of a number, at most 16, in the opposite order.
+// The lowest so many bits of a number in the opposite order.
 fn mirror(number: u16, count: u32) -> u16
-    requires { count ≤ 16 }
+    requires { (0 < count) × (count ≤ 16) }
     ensures { result ≡ mirrored count number }
 {
-    let mut rest = number;
-    let mut mirror: u16 = 0;
-    for _i in 0..count {
-        mirror = mirror * 2 + rest % 2;
-        rest /= 2;
-    }
-    mirror
+    number.reverse_bits() >> (16 - count)
 }
 
 // As many ones as the register is wide.
 fn ones<R: Check>() -> u16
-    ensures { result ≡ all_ones R.Check.width }
+    ensures { result ≡ all_ones R.WIDTH }
 {
-    0xffff >> (16 - R::width_value())
+    0xffff >> (16 - R::WIDTH)
 }

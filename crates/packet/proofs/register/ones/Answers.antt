@@ -8,5 +8,5 @@ top_ones w k e = ap (λ n. (2 ^ n - 1) / 2 ^ k) (sym e) ∙ ap (λ n. n / 2 ^ k)
 
 pub returns : goal.returns
 returns g c =
-    let sized = g.met.R.Check.sized in
-    rw c.width_value.ensures (top_ones _ _ (omega (arith, sized.most)))
+    let most = g.R.Check.sized.most in
+    rw c.WIDTH.ensures (top_ones _ _ (omega (arith, most)))

@@ -34,10 +34,10 @@ module _ (w wide g o content : ℕ) (b : Bool) (most : w ≤ 16) (is_IsWide : wi
 
 pub returns : goal.returns
 returns g c =
-    let most = g.met.R.Check.sized.most in
-    let wide = c.width_value.ensures in
+    let most = g.R.Check.sized.most in
+    let wide = c.WIDTH.ensures in
     let is-ones = c.ones.ensures in
     elim c.if-top-bit.branch [
-      | then-top-bit w ↦ w.self-is ∙ xored _ _ _ _ _ _ most wide is-ones _ w.generator_value.ensures w.if-top-bit.true
+      | then-top-bit w ↦ w.self-is ∙ xored _ _ _ _ _ _ most wide is-ones _ w.GENERATOR.ensures w.if-top-bit.true
       | else-top-bit w ↦ w.self-is ∙ moved _ _ _ _ _ _ most wide is-ones w.if-top-bit.false
     ]
