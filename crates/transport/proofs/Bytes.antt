@@ -1,7 +1,7 @@
 -- Numbers and their bytes, and lists by the elements at their front.
-use Rattle.std.proofs.Common.{◌≡◌, ℕ, zero, suc, ◌+◌, ◌*◌, ◌/◌, ◌%◌, ◌^◌, ◌<◌, ◌≤◌, List, [], ◌∷◌, ◌++◌, length, get_or, drop, refl, ap, ◌∙◌, arith}
-use Rattle.std.proofs.lemmas.List.{drop_more}
-use Rattle.transport.specs.Numbers.{low_first, low_first_at, high_first, high_first_at, two_high_first, two_high_first_at}
+use Rattle.std.proofs.Common.{◌≡◌, ℕ, zero, suc, ◌+◌, ◌*◌, ◌/◌, ◌%◌, ◌^◌, ◌<◌, ◌≤◌, List, [], ◌∷◌, ◌++◌, length, get_or, take, drop, refl, ap, ◌∙◌, arith}
+use Rattle.std.proofs.lemmas.List.{drop_more, take_at}
+use Rattle.transport.specs.Numbers.{low_first, low_first_at, high_first, high_first_at, two_high_first, two_high_first_at, field_at}
 use Rattle.transport.specs.Promises.{Bytes}
 
 pub byte_at : (bs : List ℕ) → Bytes bs → (i : ℕ) → get_or bs i 0 < 256
@@ -42,13 +42,16 @@ four_back a b c d p q r s =
     let fourth : d ≡ (a + b * 256 + c * 65536 + d * 16777216) / 16777216 % 256 = rw over_three (omega arith) in
     λ i. first i ∷ second i ∷ third i ∷ fourth i ∷ []
 
--- the elements from a place on, so many of them
-abbrev pub gets : ℕ → ℕ → List ℕ → List ℕ
-gets zero i bs = []
-gets (suc n) i bs = get_or bs i 0 ∷ gets n (i + 1) bs
-
-pub split_off : (n i : ℕ) (bs : List ℕ) → i + n ≤ length bs → drop i bs ≡ gets n i bs ++ drop (i + n) bs
+-- a list is a field of it and what is around it
+pub split_off : (n i : ℕ) (bs : List ℕ) → i + n ≤ length bs → drop i bs ≡ field_at n i bs ++ drop (i + n) bs
 split_off zero i bs h = ap (λ k. drop k bs) (omega arith)
 split_off (suc n) i bs h =
     let on : i + 1 + n ≡ i + suc n = omega arith in
-    drop_more bs i 0 (omega arith) ∙ ap (λ l. get_or bs i 0 ∷ l) (split_off n (i + 1) bs (omega arith) ∙ ap (λ k. gets n (i + 1) bs ++ drop k bs) on)
+    drop_more bs i 0 (omega arith) ∙ ap (λ l. get_or bs i 0 ∷ l) (split_off n (i + 1) bs (omega arith) ∙ ap (λ k. field_at n (i + 1) bs ++ drop k bs) on)
+
+length_field : (n i : ℕ) (bs : List ℕ) → length (field_at n i bs) ≡ n
+length_field zero i bs = refl
+length_field (suc n) i bs = ap suc (length_field n (i + 1) bs)
+
+pub taken : (n i : ℕ) (bs : List ℕ) → i + n ≤ length bs → take n (drop i bs) ≡ field_at n i bs
+taken n i bs h = ap (take n) (split_off n i bs h) ∙ take_at (field_at n i bs) (drop (i + n) bs) n (length_field n i bs)

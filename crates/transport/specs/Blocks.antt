@@ -19,6 +19,10 @@ flags Out = 0x00
 abbrev pub direction_of : ℕ → DataDirection
 direction_of f = cond (f == 0x80) In Out
 
+-- the direction that a byte says, if it is one of those two
+abbrev pub direction_said : ℕ → Result DataDirection TransportRefusal
+direction_said f = cond (f == 0x80 || f == 0x00) (Ok (direction_of f)) (Err BadCommandBlock)
+
 -- the bytes of a block; the 0 after the flags is the unit
 unfoldable pub block_bytes : CommandBlock → List ℕ
 block_bytes b =

@@ -1,5 +1,5 @@
 -- Numbers as bytes: low byte first in blocks, high byte first in commands and in the capacity reply.
-use Rattle.std.specs.Prelude.{ℕ, ◌+◌, ◌*◌, ◌/◌, ◌%◌, List, [], ◌∷◌, slice_index}
+use Rattle.std.specs.Prelude.{ℕ, zero, suc, ◌+◌, ◌*◌, ◌/◌, ◌%◌, List, [], ◌∷◌, slice_index}
 
 -- four bytes, the low one first
 abbrev pub low_first : ℕ → List ℕ
@@ -22,3 +22,8 @@ high_first_at bs i = slice_index bs i * 16777216 + slice_index bs (i + 1) * 6553
 
 abbrev pub two_high_first_at : List ℕ → ℕ → ℕ
 two_high_first_at bs i = slice_index bs i * 256 + slice_index bs (i + 1)
+
+-- so many bytes, from a place on
+abbrev pub field_at : ℕ → ℕ → List ℕ → List ℕ
+field_at zero i bs = []
+field_at (suc n) i bs = slice_index bs i ∷ field_at n (i + 1) bs

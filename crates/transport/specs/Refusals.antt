@@ -1,5 +1,5 @@
--- The refusals of blocks, each with its number.
-use Rattle.std.specs.Prelude.{ℕ}
+-- The refusals of blocks, each with its number and its text.
+use Rattle.std.specs.Prelude.{ℕ, List, ◌++◌, codes, decimal}
 use Rattle.transport.specs.declared.refusals.TransportRefusal.{TransportRefusal}
 use Rattle.transport.specs.declared.refusals.TransportRefusal.TheVariants.{BadCommandBlock, BadStatusBlock, WrongTag, BadStatus}
 
@@ -8,3 +8,6 @@ refusal_number BadCommandBlock = 30
 refusal_number BadStatusBlock = 33
 refusal_number WrongTag = 34
 refusal_number BadStatus = 35
+
+abbrev pub refusal_text : TransportRefusal → List ℕ
+refusal_text why = codes "refused " ++ decimal (refusal_number why)

@@ -20,6 +20,10 @@ status_number PhaseError = 2
 abbrev pub status_of : ℕ → Status
 status_of n = cond (n == 0) Passed (cond (n == 1) Failed PhaseError)
 
+-- the status that a byte says, if it says one
+abbrev pub status_said : ℕ → Result Status TransportRefusal
+status_said n = cond (nat_le n 2) (Ok (status_of n)) (Err BadStatus)
+
 -- the bytes of a block
 unfoldable pub status_bytes : StatusBlock → List ℕ
 status_bytes s = low_first status_signature ++ (low_first s.tag ++ (low_first s.residue ++ (status_number s.status ∷ [])))

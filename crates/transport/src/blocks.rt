@@ -1,9 +1,11 @@
-// The command block, by which a command is sent: building it into its 31 bytes and reading it from bytes.
+// The command block, by which a command is sent: building it into its 31 bytes and reading it from bytes. These are no
+// conversions, here and for status blocks, since building fills the caller's memory and a status is read against its
+// command.
 ghost use Rattle.std.specs.Prelude.{◌≡◌};
-ghost use Rattle.transport.specs.Blocks.{flags, is_block, block_answer, block_memory, block_read};
+ghost use Rattle.transport.specs.Blocks.{flags, direction_said, block_answer, block_memory, block_read, can_be_sent};
 
 use super::TransportRefusal;
-use super::numbers::low_first;
+use super::fields::field;
 
 // What a block begins with, low byte first: the letters USBC.
 const SIGNATURE: u32 = 0x4342_5355;
@@ -15,20 +17,35 @@ pub enum DataDirection {
     Out,
 }
 
-impl DataDirection {
-    // The byte of a block that says which way the data go.
-    fn flags(self) -> u8
-        ensures { result ≡ flags self }
-    {
-        match self {
+// The byte of a block that says which way the data go.
+impl From<DataDirection> for u8 {
+    ghost from_gives = { λ direction byte. byte ≡ flags direction };
+
+    fn from(direction: DataDirection) -> u8 {
+        match direction {
             DataDirection::In => 0x80,
             DataDirection::Out => 0x00,
         }
     }
 }
 
+impl TryFrom<u8> for DataDirection {
+    type Error = TransportRefusal;
+
+    ghost try_from_gives = { λ byte answer. answer ≡ direction_said byte };
+
+    fn try_from(byte: u8) -> Result<DataDirection, TransportRefusal> {
+        match byte {
+            0x80 => Ok(DataDirection::In),
+            0x00 => Ok(DataDirection::Out),
+            _ => Err(TransportRefusal::BadCommandBlock),
+        }
+    }
+}
+
 // A command for unit 0, the only one: the tag that its status repeats, how many bytes of data are to move and which
-// way, and the command itself, of which only the first so many bytes count.
+// way, and the command itself, of which only the first so many bytes count. That number is a field of the format, which
+// building checks, so it stands beside the bytes.
 #[derive(Clone, Copy)]
 pub struct CommandBlock {
     pub tag: u32,
@@ -41,56 +58,50 @@ pub struct CommandBlock {
 impl CommandBlock {
     // Fills the memory with the block's bytes. A command length that is not 1 to 16 is refused, and the memory is left
     // alone.
+    #[tactic(auto, unfolding(crate::specs::Blocks::block_bytes))]
     pub fn build(self, out: &mut [u8; 31]) -> Result<(), TransportRefusal>
         ensures answer { result ≡ block_answer self }
         ensures memory { out.new ≡ block_memory self out.old }
     {
-        if self.command_length < 1 || self.command_length > 16 {
+        if !self.can_be_sent() {
             return Err(TransportRefusal::BadCommandBlock);
         }
         *out = [0; 31];
         out[0..4].copy_from_slice(&SIGNATURE.to_le_bytes());
         out[4..8].copy_from_slice(&self.tag.to_le_bytes());
         out[8..12].copy_from_slice(&self.length.to_le_bytes());
-        out[12] = self.direction.flags();
+        out[12] = self.direction.into();
         out[14] = self.command_length;
         out[15..31].copy_from_slice(&self.command);
         Ok(())
     }
 
     // The block that the bytes are.
+    #[tactic(auto, unfolding(crate::specs::Blocks::block_read))]
     pub fn read(bytes: &[u8]) -> Result<CommandBlock, TransportRefusal>
         ensures { result ≡ block_read bytes.now }
     {
-        if !is_block(bytes) {
+        let Ok(bytes) = <&[u8; 31]>::try_from(bytes) else {
+            return Err(TransportRefusal::BadCommandBlock);
+        };
+        let block = CommandBlock {
+            tag: u32::from_le_bytes(field(bytes, 4)),
+            length: u32::from_le_bytes(field(bytes, 8)),
+            direction: DataDirection::try_from(bytes[12])?,
+            command_length: bytes[14],
+            command: field(bytes, 15),
+        };
+        let signature = u32::from_le_bytes(field(bytes, 0));
+        if signature != SIGNATURE || bytes[13] != 0 || !block.can_be_sent() {
             return Err(TransportRefusal::BadCommandBlock);
         }
-        let direction = if bytes[12] == 0x80 {
-            DataDirection::In
-        } else {
-            DataDirection::Out
-        };
-        let mut command = [0; 16];
-        command.copy_from_slice(&bytes[15..31]);
-        Ok(CommandBlock {
-            tag: low_first(bytes, 4),
-            length: low_first(bytes, 8),
-            direction,
-            command_length: bytes[14],
-            command,
-        })
+        Ok(block)
     }
-}
 
-// Whether the bytes are a block: as many as a block has, its signature, known flags, unit 0 and a command length of 1 to
-// 16.
-fn is_block(bytes: &[u8]) -> bool
-    ensures { result ≡ is_block bytes.now }
-{
-    bytes.len() == 31
-        && low_first(bytes, 0) == SIGNATURE
-        && (bytes[12] == 0x80 || bytes[12] == 0x00)
-        && bytes[13] == 0
-        && bytes[14] >= 1
-        && bytes[14] <= 16
+    // A command has 1 to 16 bytes.
+    fn can_be_sent(&self) -> bool
+        ensures { result ≡ can_be_sent self.now }
+    {
+        (1..=16).contains(&self.command_length)
+    }
 }

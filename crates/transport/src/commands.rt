@@ -2,7 +2,16 @@
 ghost use Rattle.std.specs.Prelude.{◌≡◌};
 ghost use Rattle.transport.specs.Commands.{command_of, command_bytes, command_size, coded_bytes};
 
-use super::numbers::{high_first, two_high_first};
+use super::fields::field;
+
+// The codes of the commands, which are their first bytes.
+const TEST: u8 = 0x00;
+
+const CAPACITY: u8 = 0x25;
+
+const READ: u8 = 0x28;
+
+const WRITE: u8 = 0x2a;
 
 #[derive(Clone, Copy)]
 pub enum Command {
@@ -14,29 +23,31 @@ pub enum Command {
 
 impl Command {
     // The command that the bytes are, or none that is known. The bytes that no command here uses are not tested.
+    #[tactic(auto, unfolding(crate::specs::Commands::command_of))]
     pub fn read(bytes: &[u8; 16]) -> Option<Command>
         ensures { result ≡ command_of bytes.now }
     {
-        let sector = high_first(bytes, 2);
-        let count = two_high_first(bytes, 7);
+        let sector = u32::from_be_bytes(field(bytes, 2));
+        let count = u16::from_be_bytes(field(bytes, 7));
         match bytes[0] {
-            0x00 => Some(Command::Test),
-            0x25 => Some(Command::Capacity),
-            0x28 => Some(Command::Read { sector, count }),
-            0x2a => Some(Command::Write { sector, count }),
+            TEST => Some(Command::Test),
+            CAPACITY => Some(Command::Capacity),
+            READ => Some(Command::Read { sector, count }),
+            WRITE => Some(Command::Write { sector, count }),
             _ => None,
         }
     }
 
     // The command's bytes, with zeros where it has nothing to say.
+    #[tactic(auto, unfolding(crate::specs::Commands::command_bytes))]
     pub fn bytes(self) -> [u8; 16]
         ensures { result ≡ command_bytes self }
     {
         match self {
-            Command::Test => coded(0x00, 0, 0),
-            Command::Capacity => coded(0x25, 0, 0),
-            Command::Read { sector, count } => coded(0x28, sector, count),
-            Command::Write { sector, count } => coded(0x2a, sector, count),
+            Command::Test => coded(TEST, 0, 0),
+            Command::Capacity => coded(CAPACITY, 0, 0),
+            Command::Read { sector, count } => coded(READ, sector, count),
+            Command::Write { sector, count } => coded(WRITE, sector, count),
         }
     }
 

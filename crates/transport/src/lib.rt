@@ -4,7 +4,7 @@
 mod blocks;
 mod capacity;
 mod commands;
-mod numbers;
+mod fields;
 mod promises;
 mod refusals;
 mod statuses;

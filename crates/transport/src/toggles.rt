@@ -50,8 +50,14 @@ impl Toggles {
         ensures { result ≡ toggle_set direction kind self }
     {
         match direction {
-            DataDirection::In => Toggles { data_in: kind, ..self },
-            DataDirection::Out => Toggles { data_out: kind, ..self },
+            DataDirection::In => Toggles {
+                data_in: kind,
+                ..self
+            },
+            DataDirection::Out => Toggles {
+                data_out: kind,
+                ..self
+            },
         }
     }
 }
