@@ -11,11 +11,10 @@ use Rattle.packet.specs.Reading.{Reading, packet, refused}
 use Rattle.reader.specs.declared.state.Expectation.{Expectation}
 use Rattle.reader.specs.declared.state.Expectation.TheVariants.{Nothing, SetupData, ControlData, BulkData, ControlAck, BulkAck}
 use Rattle.reader.specs.declared.state.Halts.{Halts}
-use Rattle.reader.specs.declared.state.Toggles.{Toggles}
 use Rattle.reader.specs.declared.state.Transfer.{Transfer}
 use Rattle.reader.specs.declared.state.Transfer.TheVariants.{None as NoTransfer, Asked, Answered, Stalled}
 use Rattle.reader.specs.Answers.{Answer, quiet, says, acks, stalls, answer_bytes}
-use Rattle.reader.specs.BulkEnds.{Outcome, unwritten, same_kind, receiving_halted, receiving_turned, wanted, bulk_in, offered}
+use Rattle.reader.specs.BulkEnds.{Outcome, unwritten, same_kind, receiving_halted, wanted, bulk_in, offered}
 use Rattle.reader.specs.Control.{expecting, with_control, with_addresses, addressed, settled, is_data0, answers_in, answers_out}
 use Rattle.reader.specs.Disk.{Disk}
 use Rattle.reader.specs.Hears.{hears, token_taken, hears_data, hears_ack}
@@ -31,6 +30,8 @@ use Rattle.transport.specs.declared.blocks.DataDirection.TheVariants.{Out as Rec
 use Rattle.transport.specs.declared.statuses.Status.TheVariants.{PhaseError}
 use Rattle.transport.specs.declared.statuses.StatusBlock.{StatusBlock}
 use Rattle.transport.specs.Statuses.{status_bytes}
+use Rattle.transport.specs.declared.toggles.Toggles.{Toggles}
+use Rattle.transport.specs.Toggles.{toggle_turned}
 
 pub a_repeat_changes_nothing : ARepeatChangesNothing
 a_repeat_changes_nothing s d k body expected other =
@@ -101,7 +102,7 @@ unfolding Sent AnsweredSo
 so_data SetupData s d k body = either Sent (is_data0 k && eqb (length body) 8) _ _ refl tt
 so_data ControlData s d k body = sent_out s.control.transfer
 so_data BulkData s d k body =
-    either AnsweredSo (same_kind k s.bulk.toggles.receiving) _ _
+    either AnsweredSo (same_kind k s.bulk.toggles.data_out) _ _
     (either AnsweredSo (receiving_halted s.bulk.halts) _ _ refl (so_wanted s.bulk.phase s d body)) refl
 so_data Nothing s d k body = tt
 so_data ControlAck s d k body = tt
@@ -196,12 +197,12 @@ module _ (t : Toggles) (h : Halts) (d : Disk) (tag due left at : ℕ) (come body
   stores true is e = stores_come _ (due - length body) (left - length body) refl (eqb-true _ _ is) e
   stores false is e = nowhere None (sector, bytes) refl e
 
-module _ (s : State) (d : Disk) (k : DataKind) (body : List ℕ) (sector : ℕ) (bytes : List ℕ) (expected : s.expects ≡ BulkData) (in_turn : same_kind k s.bulk.toggles.receiving ≡ true) (alive : receiving_halted s.bulk.halts ≡ false) where
+module _ (s : State) (d : Disk) (k : DataKind) (body : List ℕ) (sector : ℕ) (bytes : List ℕ) (expected : s.expects ≡ BulkData) (in_turn : same_kind k s.bulk.toggles.data_out ≡ true) (alive : receiving_halted s.bulk.halts ≡ false) where
   by_phase : (p : Phase) → s.bulk.phase ≡ p → (wanted p s d body).written ≡ Some (sector, bytes) → Completes s d (packet (data_packet k body)) sector bytes
   by_phase command is e = nowhere None (sector, bytes) refl e
   by_phase (data_in tag due left moved source) is e = nowhere None (sector, bytes) refl e
   by_phase (data_out tag due left at come) is e =
-      let known = stores (receiving_turned s.bulk.toggles) s.bulk.halts d tag due left at come body sector bytes _ refl e in
+      let known = stores (toggle_turned Receives s.bulk.toggles) s.bulk.halts d tag due left at come body sector bytes _ refl e in
       let same_sector : at ≡ sector = known.same_sector in
       let same_bytes : come ++ body ≡ bytes = known.same_bytes in
       let allowed : d.verdict at (come ++ body) ≡ Taken = known.allowed in
@@ -228,7 +229,7 @@ module _ (s : State) (d : Disk) (k : DataKind) (body : List ℕ) (sector : ℕ) 
   by_phase (status block false) is e = nowhere None (sector, bytes) refl e
 
 module _ (s : State) (d : Disk) (k : DataKind) (body : List ℕ) (sector : ℕ) (bytes : List ℕ) where
-  by_tests : (turn halt : Bool) → s.expects ≡ BulkData → same_kind k s.bulk.toggles.receiving ≡ turn → receiving_halted s.bulk.halts ≡ halt
+  by_tests : (turn halt : Bool) → s.expects ≡ BulkData → same_kind k s.bulk.toggles.data_out ≡ turn → receiving_halted s.bulk.halts ≡ halt
       → (cond turn (cond halt (unwritten (expecting Nothing s, stalls)) (wanted s.bulk.phase s d body)) (unwritten (expecting Nothing s, acks))).written ≡ Some (sector, bytes)
       → Completes s d (packet (data_packet k body)) sector bytes
   by_tests true false expected in_turn alive e = by_phase s d k body sector bytes expected in_turn alive s.bulk.phase refl e

@@ -4,7 +4,6 @@ use borrow.Rule.Slice.PartMut.{put_mid}
 use Rattle.std.proofs.lemmas.Slice.{take-put_mid}
 use Rattle.std.proofs.lemmas.Bool.{cond-true, cond-false, eq-eqb, ne_eqb}
 use Rattle.reader.specs.declared.state.Halts.{Halts}
-use Rattle.reader.specs.declared.state.Toggles.{Toggles}
 use Rattle.reader.specs.Control.{with_bulk}
 use Rattle.reader.specs.Disk.{Disk, Left}
 use Rattle.reader.specs.Stages.{sector_answered, come_so_far, take_data}
@@ -13,6 +12,7 @@ use Rattle.store.specs.declared.answers.StoreRefusal.{StoreRefusal}
 use Rattle.store.specs.declared.answers.Verdict.{Verdict}
 use Rattle.store.specs.declared.answers.Verdict.TheVariants.{Taken, Locked, Full}
 use Rattle.store.specs.Access.{write_answer, write_sectors, VerdictsKept}
+use Rattle.transport.specs.declared.toggles.Toggles.{Toggles}
 
 -- what the store says of a write is what is left of the disk
 by_answer : (t : Toggles) (h : Halts) (tag due left sector : ℕ) (bytes : List ℕ) (answer : Result Verdict StoreRefusal) (before after : Disk) → after.size ≡ before.size → after.sectors ≡ write_sectors answer before.sectors sector bytes → VerdictsKept answer before.verdict after.verdict → Left (sector_answered t h tag due left sector bytes answer).1 before after

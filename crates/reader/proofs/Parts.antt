@@ -1,30 +1,7 @@
 -- Parts of lists, and of sectors joined.
-use Rattle.std.proofs.Common.{◌≡◌, ℕ, zero, suc, ◌+◌, ◌-◌, ◌*◌, ◌/◌, ◌%◌, ◌<◌, ◌≤◌, min, List, [], ◌∷◌, ◌++◌, length, get_or, take, drop, sym, refl, ap, ◌∙◌, inl, inr, arith, length-append, length-drop}
-use Rattle.std.proofs.lemmas.List.{take_all, drop_all, drop-drop, drop-append-le, take-append-le, drop_at, drop_more, get_or-drop}
-use Rattle.std.proofs.lemmas.Bool.{cases_lt}
+use Rattle.std.proofs.Common.{◌≡◌, ℕ, zero, suc, ◌+◌, ◌*◌, ◌/◌, ◌%◌, ◌<◌, ◌≤◌, List, [], ◌∷◌, ◌++◌, length, get_or, take, drop, sym, refl, ap, ◌∙◌, arith, length-append, length-drop}
+use Rattle.std.proofs.lemmas.List.{drop_all, drop-drop, drop-append-le, take-append-le, drop_at, drop_more, get_or-drop}
 use Rattle.reader.specs.Disk.{all_bytes}
-
--- no more can be taken than there is
-pub take_min : {A : Type 0} (m n : ℕ) (l : List A) → n ≡ min m (length l) → take n l ≡ take m l
-take_min m n l e =
-    elim (cases_lt m (length l)) [
-      | inl few ↦ let same : n ≡ m = omega arith in rw same refl
-      | inr many ↦ let all : n ≡ length l = omega arith in rw all (take_all (length l) l (omega arith) ∙ sym (take_all m l many))
-    ]
-
--- past the end nothing is left
-pub drop_min : {A : Type 0} (m n : ℕ) (l : List A) → n ≡ min m (length l) → drop n l ≡ drop m l
-drop_min m n l e =
-    elim (cases_lt m (length l)) [
-      | inl few ↦ let same : n ≡ m = omega arith in rw same refl
-      | inr many ↦ let all : n ≡ length l = omega arith in rw all (drop_all (length l) l (omega arith) ∙ sym (drop_all m l many))
-    ]
-
--- a part of a list, cut to what there is
-pub part_from : (bytes : List ℕ) (place most start count : ℕ) → start ≡ min place (length bytes) → count ≡ min most (length bytes - start) → take (start + count - start) (drop start bytes) ≡ take most (drop place bytes)
-part_from bytes place most start count s n =
-    let same : start + count - start ≡ count = omega arith in
-    rw same (take_min most count (drop start bytes) (rw length-drop n) ∙ ap (take most) (drop_min place start bytes s))
 
 -- sectors joined -------------------------------------------------------------------------------------------------
 

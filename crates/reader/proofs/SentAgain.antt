@@ -105,7 +105,7 @@ keeps_data : (x : Expectation) (s : State) (d : Disk) (k : DataKind) (body : Lis
 unfolding Keeps KeepsSo
 keeps_data SetupData s d k body is = either (KeepsSo s) (is_data0 k && eqb (length body) 8) _ _ (refl, refl) (refl, refl)
 keeps_data ControlData s d k body is = (refl, refl)
-keeps_data BulkData s d k body is = keeps_bulk_data (same_kind k s.bulk.toggles.receiving) (receiving_halted s.bulk.halts) s.bulk.phase s d body is
+keeps_data BulkData s d k body is = keeps_bulk_data (same_kind k s.bulk.toggles.data_out) (receiving_halted s.bulk.halts) s.bulk.phase s d body is
 keeps_data Nothing s d k body is = (refl, refl)
 keeps_data ControlAck s d k body is = (refl, refl)
 keeps_data BulkAck s d k body is = (refl, refl)
@@ -144,10 +144,10 @@ offer (data_out tag due left sector come) k d = naks
 offer (status block sent) k d = says (data_packet k (status_bytes block))
 
 abbrev answer_by : Bulk → Disk → Answer
-answer_by b d = cond (sending_halted b.halts) stalls (offer b.phase b.toggles.sending d)
+answer_by b d = cond (sending_halted b.halts) stalls (offer b.phase b.toggles.data_in d)
 
 offered_so : (h : Bool) (p : Phase) (s : State) (d : Disk)
-    → (cond h (expecting Nothing s, stalls) (offered p s d)).1 ≡ cond h stalls (offer (marked p) s.bulk.toggles.sending d)
+    → (cond h (expecting Nothing s, stalls) (offered p s d)).1 ≡ cond h stalls (offer (marked p) s.bulk.toggles.data_in d)
 offered_so true p s d = refl
 offered_so false command s d = refl
 offered_so false (data_in tag due left moved source) s d = refl

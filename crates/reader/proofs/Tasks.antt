@@ -14,11 +14,10 @@ use Rattle.reader.specs.declared.state.Halts.{Halts}
 use Rattle.reader.specs.declared.state.Halts.TheVariants.{Each, Invalid}
 use Rattle.reader.specs.declared.state.Request.{Request}
 use Rattle.reader.specs.declared.state.Request.TheVariants.{SetAddress, Configure, ClearHalt, ResetTransport}
-use Rattle.reader.specs.declared.state.Toggles.{Toggles}
 use Rattle.reader.specs.declared.state.Transfer.{Transfer}
 use Rattle.reader.specs.declared.state.Transfer.TheVariants.{None as NoTransfer, Asked, Answered, Stalled}
 use Rattle.reader.specs.Answers.{Answer, acks, stalls}
-use Rattle.reader.specs.BulkEnds.{Outcome, unwritten, same_kind, sending_halted, receiving_halted, receiving_turned, sending_turned, wanted, offered, bulk_acknowledged}
+use Rattle.reader.specs.BulkEnds.{Outcome, unwritten, same_kind, sending_halted, receiving_halted, wanted, offered, bulk_acknowledged}
 use Rattle.reader.specs.Control.{expecting, with_control, with_addresses, addressed, settled, answers_in, is_data0, effect, halt_cleared}
 use Rattle.reader.specs.Disk.{Disk, Written}
 use Rattle.reader.specs.Hears.{hears, hears_data, hears_ack, token_taken}
@@ -40,6 +39,8 @@ use Rattle.transport.specs.declared.blocks.DataDirection.TheVariants.{In as Send
 use Rattle.transport.specs.declared.refusals.TransportRefusal.{TransportRefusal}
 use Rattle.transport.specs.declared.statuses.Status.TheVariants.{Passed, Failed, PhaseError}
 use Rattle.transport.specs.declared.statuses.StatusBlock.{StatusBlock}
+use Rattle.transport.specs.declared.toggles.Toggles.{Toggles}
+use Rattle.transport.specs.Toggles.{toggle_turned}
 
 -- a task whose data are moving
 record UnderWay (tag due left : ℕ) (t : Task) : Type 0 where
@@ -142,11 +143,11 @@ module _ (tog : Toggles) (h : Halts) (d : Disk) (tag due left at : ℕ) (come bo
 
 agree_wanted : (p : Phase) (s : State) (d : Disk) (body : List ℕ) (o : Option Task) → wants p ≡ true → Agree p o → Agrees (after_data p d.size body (wanted p s d body).written o) (wanted p s d body).state.bulk
 unfolding Agrees
-agree_wanted command s d body o is agree = agree_block (receiving_turned s.bulk.toggles) s.bulk.halts d.size (block_read body) o
+agree_wanted command s d body o is agree = agree_block (toggle_turned Receives s.bulk.toggles) s.bulk.halts d.size (block_read body) o
 agree_wanted (data_in tag due left moved source) s d body o is agree = absurd (true≢false (sym is))
 agree_wanted (data_out tag due left sector come) s d body None is agree = absurd agree
-agree_wanted (data_out tag due left sector come) s d body (Some t) is agree = agree_data (receiving_turned s.bulk.toggles) s.bulk.halts d tag due left sector come body t agree.0 agree.1
-agree_wanted (status block true) s d body o is agree = agree_block (receiving_turned (sending_turned s.bulk.toggles)) s.bulk.halts d.size (block_read body) o
+agree_wanted (data_out tag due left sector come) s d body (Some t) is agree = agree_data (toggle_turned Receives s.bulk.toggles) s.bulk.halts d tag due left sector come body t agree.0 agree.1
+agree_wanted (status block true) s d body o is agree = agree_block (toggle_turned Receives (toggle_turned Sends s.bulk.toggles)) s.bulk.halts d.size (block_read body) o
 agree_wanted (status block false) s d body o is agree = absurd (true≢false (sym is))
 
 -- data after a bulk OUT, by whether they are no repeat and whether the endpoint is halted
@@ -173,7 +174,7 @@ agree_hears_data : (x : Expectation) (s : State) (d : Disk) (k : DataKind) (body
 unfolding Agrees AgreesSo AgreesThen
 agree_hears_data SetupData s d k body o agree = either (AgreesSo o) (is_data0 k && eqb (length body) 8) _ _ agree agree
 agree_hears_data ControlData s d k body o agree = agree
-agree_hears_data BulkData s d k body o agree = agree_bulk_data (same_kind k s.bulk.toggles.receiving) (receiving_halted s.bulk.halts) s.bulk.phase s d body o refl agree
+agree_hears_data BulkData s d k body o agree = agree_bulk_data (same_kind k s.bulk.toggles.data_out) (receiving_halted s.bulk.halts) s.bulk.phase s d body o refl agree
 agree_hears_data Nothing s d k body o agree = agree
 agree_hears_data ControlAck s d k body o agree = agree
 agree_hears_data BulkAck s d k body o agree = agree
@@ -195,7 +196,7 @@ agree_acknowledged (data_in tag due left moved source) b None is agree = absurd 
 agree_acknowledged (data_in tag due left moved source) b (Some t) is agree =
     let same : left ≡ needed t.plan - t.moved = omega (arith, agree.still_left) in
     subst (λ n. Agrees (Some (with_moved (t.moved + min 64 n) t)) (bulk_acknowledged (data_in tag due left moved source) b)) same
-    (agree_sent_on (eqb (left - min 64 left) 0) (sending_turned b.toggles) b.halts tag due left moved source t agree refl)
+    (agree_sent_on (eqb (left - min 64 left) 0) (toggle_turned Sends b.toggles) b.halts tag due left moved source t agree refl)
 agree_acknowledged (data_out tag due left sector come) b o is agree = subst (λ q. Agree q o) (sym is) agree
 agree_acknowledged (status block true) b o is agree = tt
 agree_acknowledged (status block false) b o is agree = subst (λ q. Agree q o) (sym is) agree

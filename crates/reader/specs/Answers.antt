@@ -1,5 +1,5 @@
 -- What the reader answers, as plain values.
-use Rattle.std.specs.Prelude.{ℕ, ◌-◌, List, [], ◌++◌, length, take, replicate}
+use Rattle.std.specs.Prelude.{ℕ, ◌-◌, List, [], ◌++◌, length, replicate}
 use Rattle.packet.specs.declared.kind.Handshake.TheVariants.{Ack, Nak, Stall}
 use Rattle.packet.specs.Building.{building}
 use Rattle.packet.specs.Parts.{Parts, data_packet, handshake}
@@ -13,7 +13,7 @@ pub data Answer : Type 0 where
 abbrev pub answer_seen : Answers → Answer
 answer_seen Nothing = quiet
 answer_seen (Handshake h) = says (handshake h)
-answer_seen (Data k body) = says (data_packet k (take body.length body.bytes))
+answer_seen (Data k body) = says (data_packet k body)
 
 abbrev pub acks : Answer
 acks = says (handshake Ack)

@@ -1,18 +1,20 @@
 -- The bulk endpoints: 1 IN and 2 OUT.
 use Rattle.std.specs.Prelude.{ℕ, Bool, true, false, cond, List, None}
 use Rattle.packet.specs.declared.kind.DataKind.{DataKind}
-use Rattle.packet.specs.declared.kind.DataKind.TheVariants.{Data0, Data1}
 use Rattle.packet.specs.Parts.{data_packet}
 use Rattle.reader.specs.declared.state.Expectation.TheVariants.{Nothing, BulkAck}
 use Rattle.reader.specs.declared.state.Halts.{Halts}
 use Rattle.reader.specs.declared.state.Halts.TheVariants.{Each, Invalid}
-use Rattle.reader.specs.declared.state.Toggles.{Toggles}
 use Rattle.reader.specs.Answers.{Answer, quiet, says, acks, naks, stalls}
 use Rattle.reader.specs.Control.{expecting, with_bulk}
 use Rattle.reader.specs.Disk.{Disk, Written}
 use Rattle.reader.specs.Stages.{take_block, take_data, waiting, data_acknowledged}
 use Rattle.reader.specs.State.{Bulk, State, Phase, command, data_in, data_out, status}
 use Rattle.transport.specs.Statuses.{status_bytes}
+use Rattle.transport.specs.declared.blocks.DataDirection.{DataDirection}
+use Rattle.transport.specs.declared.blocks.DataDirection.TheVariants.{In, Out}
+use Rattle.transport.specs.Toggles.{toggle_turned}
+pub use Rattle.packet.specs.Kinds.{turned, same_kind}
 
 -- what hearing comes to: the state, the answer, and the sector that was written
 pub record Outcome : Type 0 where
@@ -23,22 +25,6 @@ pub record Outcome : Type 0 where
 abbrev pub unwritten : State × Answer → Outcome
 unwritten p = record { state = p.0; answer = p.1; written = None }
 
-abbrev pub turned : DataKind → DataKind
-turned Data0 = Data1
-turned Data1 = Data0
-
-abbrev pub same_kind : DataKind → DataKind → Bool
-same_kind Data0 Data0 = true
-same_kind Data0 Data1 = false
-same_kind Data1 Data0 = false
-same_kind Data1 Data1 = true
-
-abbrev pub sending_turned : Toggles → Toggles
-sending_turned t = record { sending = turned t.sending; receiving = t.receiving }
-
-abbrev pub receiving_turned : Toggles → Toggles
-receiving_turned t = record { sending = t.sending; receiving = turned t.receiving }
-
 abbrev pub sending_halted : Halts → Bool
 sending_halted (Each s r) = s
 sending_halted Invalid = true
@@ -46,6 +32,10 @@ sending_halted Invalid = true
 abbrev pub receiving_halted : Halts → Bool
 receiving_halted (Each s r) = r
 receiving_halted Invalid = true
+
+abbrev pub halted : DataDirection → Halts → Bool
+halted In h = sending_halted h
+halted Out h = receiving_halted h
 
 -- data that are taken
 abbrev pub taken_as : State → Bulk × Written → Outcome
@@ -57,27 +47,27 @@ not_wanted s = unwritten (expecting Nothing s, naks)
 
 -- expected data, not halted, by the phase; where a status that was sent has had no ACK, they count as that ACK
 abbrev pub wanted : Phase → State → Disk → List ℕ → Outcome
-wanted command s d body = taken_as s (take_block (receiving_turned s.bulk.toggles) s.bulk.halts d.size body, None)
+wanted command s d body = taken_as s (take_block (toggle_turned Out s.bulk.toggles) s.bulk.halts d.size body, None)
 wanted (data_in tag due left moved source) s d body = not_wanted s
-wanted (data_out tag due left sector come) s d body = taken_as s (take_data (receiving_turned s.bulk.toggles) s.bulk.halts d tag due left sector come body)
-wanted (status block true) s d body = taken_as s (take_block (receiving_turned (sending_turned s.bulk.toggles)) s.bulk.halts d.size body, None)
+wanted (data_out tag due left sector come) s d body = taken_as s (take_data (toggle_turned Out s.bulk.toggles) s.bulk.halts d tag due left sector come body)
+wanted (status block true) s d body = taken_as s (take_block (toggle_turned Out (toggle_turned In s.bulk.toggles)) s.bulk.halts d.size body, None)
 wanted (status block false) s d body = not_wanted s
 
 -- the data after an OUT; data with the toggle that is not expected are a repeat
 abbrev pub bulk_data : State → Disk → DataKind → List ℕ → Outcome
 bulk_data s d k body =
-    cond (same_kind k s.bulk.toggles.receiving)
+    cond (same_kind k s.bulk.toggles.data_out)
     (cond (receiving_halted s.bulk.halts) (unwritten (expecting Nothing s, stalls)) (wanted s.bulk.phase s d body))
     (unwritten (expecting Nothing s, acks))
 
 -- what waits to be sent, by the phase
 abbrev pub offered : Phase → State → Disk → State × Answer
 offered command s d = (expecting Nothing s, naks)
-offered (data_in tag due left moved source) s d = (expecting BulkAck s, says (data_packet s.bulk.toggles.sending (waiting d left moved source)))
+offered (data_in tag due left moved source) s d = (expecting BulkAck s, says (data_packet s.bulk.toggles.data_in (waiting d left moved source)))
 offered (data_out tag due left sector come) s d = (expecting Nothing s, naks)
 offered (status block sent) s d = (
   expecting BulkAck (with_bulk (record { toggles = s.bulk.toggles; halts = s.bulk.halts; phase = status block true }) s),
-  says (data_packet s.bulk.toggles.sending (status_bytes block)),
+  says (data_packet s.bulk.toggles.data_in (status_bytes block)),
 )
 
 -- an IN
@@ -87,9 +77,9 @@ bulk_in s d = cond (sending_halted s.bulk.halts) (expecting Nothing s, stalls) (
 -- the acknowledgement of what was sent
 abbrev pub bulk_acknowledged : Phase → Bulk → Bulk
 bulk_acknowledged command b = b
-bulk_acknowledged (data_in tag due left moved source) b = data_acknowledged (sending_turned b.toggles) b.halts tag due left moved source
+bulk_acknowledged (data_in tag due left moved source) b = data_acknowledged (toggle_turned In b.toggles) b.halts tag due left moved source
 bulk_acknowledged (data_out tag due left sector come) b = b
-bulk_acknowledged (status block true) b = record { toggles = sending_turned b.toggles; halts = b.halts; phase = command }
+bulk_acknowledged (status block true) b = record { toggles = toggle_turned In b.toggles; halts = b.halts; phase = command }
 bulk_acknowledged (status block false) b = b
 
 abbrev pub bulk_ack : State → State × Answer

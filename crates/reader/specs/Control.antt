@@ -19,6 +19,7 @@ use Rattle.reader.specs.Answers.{Answer, quiet, says, acks, naks, stalls}
 use Rattle.reader.specs.State.{Control, Bulk, State, command, fresh}
 use Rattle.transport.specs.declared.blocks.DataDirection.{DataDirection}
 use Rattle.transport.specs.declared.blocks.DataDirection.TheVariants.{In as Sends, Out as Receives}
+use Rattle.transport.specs.Toggles.{toggle_freshened}
 
 -- changes of one part
 abbrev pub expecting : Expectation → State → State
@@ -83,8 +84,8 @@ begun configured body = asked configured (slice_index body 0) (slice_index body 
 -- clear halt: that halt ends and that toggle is DATA0, unless an invalid block came
 abbrev pub halt_cleared : DataDirection → Bulk → Halts → Bulk
 halt_cleared d b Invalid = b
-halt_cleared Sends b (Each s r) = record { toggles = record { sending = Data0; receiving = b.toggles.receiving }; halts = Each false r; phase = b.phase }
-halt_cleared Receives b (Each s r) = record { toggles = record { sending = b.toggles.sending; receiving = Data0 }; halts = Each s false; phase = b.phase }
+halt_cleared Sends b (Each s r) = record { toggles = toggle_freshened Sends b.toggles; halts = Each false r; phase = b.phase }
+halt_cleared Receives b (Each s r) = record { toggles = toggle_freshened Receives b.toggles; halts = Each s false; phase = b.phase }
 
 -- the transport's reset drops the command, and keeps toggles and halts; after it halts can be cleared
 abbrev pub halts_kept : Halts → Halts

@@ -1,6 +1,7 @@
 -- The meaning of a store, as the reader's definition takes it, and how an arrival leaves it.
 use Rattle.std.specs.Prelude.{◌≡◌, ℕ, List, [], ◌∷◌, ◌++◌, Some, None, Option, slice_set}
 use Rattle.store.specs.declared.answers.Verdict.{Verdict}
+use Rattle.store.specs.declared.interface.Store.{Ghosts}
 
 pub record Disk : Type 0 where
   pub size : ℕ
@@ -8,8 +9,8 @@ pub record Disk : Type 0 where
   pub verdict : ℕ → List ℕ → Verdict
 
 -- a store by its ghost members
-abbrev pub disk_of : {S : Type 0} → (S → ℕ) → (S → List (List ℕ)) → (S → ℕ → List ℕ → Verdict) → S → Disk
-disk_of size sectors verdict s = record { size = size s; sectors = sectors s; verdict = verdict s }
+abbrev pub disk_of : {S : Type 0} → Ghosts S → S → Disk
+disk_of g s = record { size = g.size s; sectors = g.sectors s; verdict = g.verdict s }
 
 -- the bytes of sectors, one after another
 unfoldable pub all_bytes : List (List ℕ) → List ℕ

@@ -22,7 +22,7 @@ use Rattle.transport.specs.declared.statuses.StatusBlock.{StatusBlock}
 -- data that come again are acknowledged and do nothing else
 abbrev pub ARepeatChangesNothing : Type 0
 ARepeatChangesNothing =
-    (s : State) (d : Disk) (k : DataKind) (body : List ℕ) → s.expects ≡ BulkData → same_kind k s.bulk.toggles.receiving ≡ false
+    (s : State) (d : Disk) (k : DataKind) (body : List ℕ) → s.expects ≡ BulkData → same_kind k s.bulk.toggles.data_out ≡ false
     → hears s d (packet (data_packet k body)) ≡ record { state = expecting Nothing s; answer = acks; written = None }
 
 -- an answer that can be sent: nothing, or a packet that can be built
@@ -44,7 +44,7 @@ pub record Completes (s : State) (d : Disk) (r : Reading) (sector : ℕ) (bytes 
   pub come : List ℕ
   pub heard : r ≡ packet (data_packet kind body)
   pub expected : s.expects ≡ BulkData
-  pub in_turn : same_kind kind s.bulk.toggles.receiving ≡ true
+  pub in_turn : same_kind kind s.bulk.toggles.data_out ≡ true
   pub alive : receiving_halted s.bulk.halts ≡ false
   pub phase : s.bulk.phase ≡ data_out tag due left sector come
   pub full : length body ≡ min 64 left

@@ -25,7 +25,7 @@ wants (status block sent) = sent
 
 -- data are taken by the bulk endpoint: they are expected, no repeat, and wanted, and the endpoint is not halted
 abbrev pub takes : Expectation → State → DataKind → Bool
-takes BulkData s k = same_kind k s.bulk.toggles.receiving && (not (receiving_halted s.bulk.halts) && wants s.bulk.phase)
+takes BulkData s k = same_kind k s.bulk.toggles.data_out && (not (receiving_halted s.bulk.halts) && wants s.bulk.phase)
 takes Nothing s k = false
 takes SetupData s k = false
 takes ControlData s k = false

@@ -4,7 +4,6 @@ use Rattle.reader.specs.declared.phase.Source.{Source}
 use Rattle.reader.specs.declared.phase.Source.TheVariants.{Capacity as CapacityReply, Sectors}
 use Rattle.reader.specs.declared.state.Halts.{Halts}
 use Rattle.reader.specs.declared.state.Halts.TheVariants.{Each, Invalid}
-use Rattle.reader.specs.declared.state.Toggles.{Toggles}
 use Rattle.reader.specs.Disk.{Disk, all_bytes, Written}
 use Rattle.reader.specs.State.{Bulk, command, data_in, data_out, status}
 use Rattle.store.specs.declared.answers.StoreRefusal.{StoreRefusal}
@@ -22,6 +21,7 @@ use Rattle.transport.specs.declared.commands.Command.TheVariants.{Test, Capacity
 use Rattle.transport.specs.declared.refusals.TransportRefusal.{TransportRefusal}
 use Rattle.transport.specs.declared.statuses.Status.{Status}
 use Rattle.transport.specs.declared.statuses.Status.TheVariants.{Passed, Failed, PhaseError}
+use Rattle.transport.specs.declared.toggles.Toggles.{Toggles}
 
 -- what a command comes to: no data, and it passes or fails; so many bytes to the host; so many bytes for sectors
 pub data Plan : Type 0 where

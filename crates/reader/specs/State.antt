@@ -1,6 +1,5 @@
 -- The reader's state as plain values.
 use Rattle.std.specs.Prelude.{ℕ, Bool, false, List, take}
-use Rattle.packet.specs.declared.kind.DataKind.TheVariants.{Data0}
 use Rattle.reader.specs.declared.phase.Phase.{Phase as Phases}
 use Rattle.reader.specs.declared.phase.Phase.TheVariants.{Command, DataIn, DataOut, Status}
 use Rattle.reader.specs.declared.phase.Source.{Source}
@@ -11,10 +10,11 @@ use Rattle.reader.specs.declared.state.Expectation.{Expectation}
 use Rattle.reader.specs.declared.state.Expectation.TheVariants.{Nothing}
 use Rattle.reader.specs.declared.state.Halts.{Halts}
 use Rattle.reader.specs.declared.state.Halts.TheVariants.{Each}
-use Rattle.reader.specs.declared.state.Toggles.{Toggles}
 use Rattle.reader.specs.declared.state.Transfer.{Transfer}
 use Rattle.reader.specs.declared.state.Transfer.TheVariants.{None}
 use Rattle.transport.specs.declared.statuses.StatusBlock.{StatusBlock}
+use Rattle.transport.specs.declared.toggles.Toggles.{Toggles}
+use Rattle.transport.specs.Toggles.{both_fresh}
 
 -- where a command stands: a block is awaited; data go to the host (tag, bytes due, left and moved); data come from it
 -- (tag, bytes due and left, the sector, and its bytes that have come); a status waits, and may have been sent
@@ -59,6 +59,6 @@ seen c = record {
 abbrev pub fresh : State
 fresh = record {
   control = record { addresses = One 0; configured = false; transfer = None };
-  bulk = record { toggles = record { sending = Data0; receiving = Data0 }; halts = Each false false; phase = command };
+  bulk = record { toggles = both_fresh; halts = Each false false; phase = command };
   expects = Nothing;
 }

@@ -1,14 +1,5 @@
 // What the reader answers: nothing, a handshake, or data.
-ghost use Rattle.std.specs.Prelude.{◌≤◌};
-
-use packet::{DataKind, Handshake};
-
-#[derive(Clone, Copy)]
-pub struct Body {
-    pub bytes: [u8; 64],
-    pub length: usize,
-    ghost fits: { length ≤ 64 },
-}
+use packet::{Body, DataKind, Handshake};
 
 #[derive(Clone, Copy)]
 pub enum Answer {

@@ -2,7 +2,7 @@
 ghost use Rattle.std.specs.Prelude.{◌≡◌, ◌≤◌};
 ghost use Rattle.packet.specs.Parts.{data_packet};
 ghost use Rattle.reader.specs.Answers.{answer_seen};
-ghost use Rattle.reader.specs.BulkEnds.{turned, same_kind, sending_halted, receiving_halted, sending_turned, receiving_turned, wanted, bulk_data, offered, bulk_in, bulk_acknowledged, bulk_ack};
+ghost use Rattle.reader.specs.BulkEnds.{halted, wanted, bulk_data, offered, bulk_in, bulk_acknowledged, bulk_ack};
 ghost use Rattle.reader.specs.Control.{with_bulk};
 ghost use Rattle.reader.specs.Disk.{disk_of, Left};
 ghost use Rattle.reader.specs.State.{seen};
@@ -10,76 +10,19 @@ ghost use Rattle.reader.specs.State.{seen};
 use super::answer::Answer;
 use super::phase::Phase;
 use super::sending::{status_body, waiting_body};
-use super::state::{Core, Expectation, Halts, Toggles};
+use super::state::{Core, Expectation, Halts};
 use packet::{DataKind, Handshake};
 use store::Store;
-
-fn turn(kind: DataKind) -> DataKind
-    ensures { result ≡ turned kind }
-{
-    match kind {
-        DataKind::Data0 => DataKind::Data1,
-        DataKind::Data1 => DataKind::Data0,
-    }
-}
-
-fn same(left: DataKind, right: DataKind) -> bool
-    ensures { result ≡ same_kind left right }
-{
-    match left {
-        DataKind::Data0 => match right {
-            DataKind::Data0 => true,
-            DataKind::Data1 => false,
-        },
-        DataKind::Data1 => match right {
-            DataKind::Data0 => false,
-            DataKind::Data1 => true,
-        },
-    }
-}
+use transport::DataDirection;
 
 impl Halts {
-    fn of_sending(self) -> bool
-        ensures { result ≡ sending_halted self }
+    fn is_halted(self, direction: DataDirection) -> bool
+        ensures { result ≡ halted direction self }
     {
-        match self {
-            Halts::Each {
-                sending,
-                receiving: _,
-            } => sending,
-            Halts::Invalid => true,
-        }
-    }
-
-    fn of_receiving(self) -> bool
-        ensures { result ≡ receiving_halted self }
-    {
-        match self {
-            Halts::Each {
-                sending: _,
-                receiving,
-            } => receiving,
-            Halts::Invalid => true,
-        }
-    }
-}
-
-impl Toggles {
-    fn turn_sending(self) -> Toggles
-        ensures { result ≡ sending_turned self }
-    {
-        Toggles {
-            sending: turn(self.sending),
-            receiving: self.receiving,
-        }
-    }
-
-    fn turn_receiving(self) -> Toggles
-        ensures { result ≡ receiving_turned self }
-    {
-        Toggles {
-            sending: self.sending,
-            receiving: turn(self.receiving),
+        match (self, direction) {
+            (Halts::Each { sending, .. }, DataDirection::In) => sending,
+            (Halts::Each { receiving, .. }, DataDirection::Out) => receiving,
+            (Halts::Invalid, _) => true,
         }
     }
 }
@@ -93,44 +36,35 @@ impl Core {
         self.expects = Expectation::Nothing;
         match self.phase {
             Phase::DataIn(sending) => {
-                self.toggles = self.toggles.turn_sending();
+                self.toggles = self.toggles.toggle(DataDirection::In);
                 self.data_acknowledged(sending);
             }
-            Phase::Status {
-                block: _,
-                sent: true,
-            } => {
-                self.toggles = self.toggles.turn_sending();
+            Phase::Status { sent: true, .. } => {
+                self.toggles = self.toggles.toggle(DataDirection::In);
                 self.phase = Phase::Command;
             }
-            Phase::Status {
-                block: _,
-                sent: false,
-            } => {}
-            Phase::Command => {}
-            Phase::DataOut(_) => {}
+            Phase::Command | Phase::DataOut(_) | Phase::Status { sent: false, .. } => {}
         }
         Answer::Nothing
     }
 
     // An IN for the endpoint that sends.
     pub(crate) fn hear_bulk_in<S: Store>(&mut self, store: &S) -> Answer
-        ensures state { seen self.new ≡ (bulk_in (seen self.old) (disk_of S.Store.size S.Store.sectors S.Store.verdict store.now)).0 }
-        ensures answer { answer_seen result ≡ (bulk_in (seen self.old) (disk_of S.Store.size S.Store.sectors S.Store.verdict store.now)).1 }
+        ensures state { seen self.new ≡ (bulk_in (seen self.old) (disk_of S.Store store.now)).0 }
+        ensures answer { answer_seen result ≡ (bulk_in (seen self.old) (disk_of S.Store store.now)).1 }
     {
         self.expects = Expectation::Nothing;
-        if self.halts.of_sending() {
+        if self.halts.is_halted(DataDirection::In) {
             return Answer::Handshake(Handshake::Stall);
         }
-        let kind = self.toggles.sending;
+        let kind = self.toggles.data_in;
         match self.phase {
-            Phase::Command => Answer::Handshake(Handshake::Nak),
-            Phase::DataOut(_) => Answer::Handshake(Handshake::Nak),
+            Phase::Command | Phase::DataOut(_) => Answer::Handshake(Handshake::Nak),
             Phase::DataIn(sending) => {
                 self.expects = Expectation::BulkAck;
                 Answer::Data(kind, waiting_body(store, sending))
             }
-            Phase::Status { block, sent: _ } => {
+            Phase::Status { block, .. } => {
                 self.expects = Expectation::BulkAck;
                 self.phase = Phase::Status { block, sent: true };
                 Answer::Data(kind, status_body(block))
@@ -141,35 +75,31 @@ impl Core {
     // Expected data, not halted: taken as a block or as data, or not wanted. Where a status that was sent has had no ACK,
     // they count as that ACK.
     fn take_wanted<S: Store>(&mut self, store: &mut S, body: &[u8]) -> Answer
-        ensures state { seen self.new ≡ (wanted (seen self.old).bulk.phase (seen self.old) (disk_of S.Store.size S.Store.sectors S.Store.verdict store.old) body.now).state }
-        ensures answer { answer_seen result ≡ (wanted (seen self.old).bulk.phase (seen self.old) (disk_of S.Store.size S.Store.sectors S.Store.verdict store.old) body.now).answer }
-        ensures disk { Left (wanted (seen self.old).bulk.phase (seen self.old) (disk_of S.Store.size S.Store.sectors S.Store.verdict store.old) body.now).written (disk_of S.Store.size S.Store.sectors S.Store.verdict store.old) (disk_of S.Store.size S.Store.sectors S.Store.verdict store.new) }
+        ensures state { seen self.new ≡ (wanted (seen self.old).bulk.phase (seen self.old) (disk_of S.Store store.old) body.now).state }
+        ensures answer { answer_seen result ≡ (wanted (seen self.old).bulk.phase (seen self.old) (disk_of S.Store store.old) body.now).answer }
+        ensures disk { Left (wanted (seen self.old).bulk.phase (seen self.old) (disk_of S.Store store.old) body.now).written (disk_of S.Store store.old) (disk_of S.Store store.new) }
     {
         self.expects = Expectation::Nothing;
         match self.phase {
             Phase::Command => {
-                self.toggles = self.toggles.turn_receiving();
+                self.toggles = self.toggles.toggle(DataDirection::Out);
                 self.take_block(store.sector_count(), body);
                 Answer::Handshake(Handshake::Ack)
             }
             Phase::DataOut(receiving) => {
-                self.toggles = self.toggles.turn_receiving();
+                self.toggles = self.toggles.toggle(DataDirection::Out);
                 self.take_data(store, receiving, body);
                 Answer::Handshake(Handshake::Ack)
             }
-            Phase::Status {
-                block: _,
-                sent: true,
-            } => {
-                self.toggles = self.toggles.turn_sending().turn_receiving();
+            Phase::Status { sent: true, .. } => {
+                let acknowledged = self.toggles.toggle(DataDirection::In);
+                self.toggles = acknowledged.toggle(DataDirection::Out);
                 self.take_block(store.sector_count(), body);
                 Answer::Handshake(Handshake::Ack)
             }
-            Phase::Status {
-                block: _,
-                sent: false,
-            } => Answer::Handshake(Handshake::Nak),
-            Phase::DataIn(_) => Answer::Handshake(Handshake::Nak),
+            Phase::DataIn(_) | Phase::Status { sent: false, .. } => {
+                Answer::Handshake(Handshake::Nak)
+            }
         }
     }
 
@@ -180,15 +110,15 @@ impl Core {
         kind: DataKind,
         body: &[u8],
     ) -> Answer
-        ensures state { seen self.new ≡ (bulk_data (seen self.old) (disk_of S.Store.size S.Store.sectors S.Store.verdict store.old) kind body.now).state }
-        ensures answer { answer_seen result ≡ (bulk_data (seen self.old) (disk_of S.Store.size S.Store.sectors S.Store.verdict store.old) kind body.now).answer }
-        ensures disk { Left (bulk_data (seen self.old) (disk_of S.Store.size S.Store.sectors S.Store.verdict store.old) kind body.now).written (disk_of S.Store.size S.Store.sectors S.Store.verdict store.old) (disk_of S.Store.size S.Store.sectors S.Store.verdict store.new) }
+        ensures state { seen self.new ≡ (bulk_data (seen self.old) (disk_of S.Store store.old) kind body.now).state }
+        ensures answer { answer_seen result ≡ (bulk_data (seen self.old) (disk_of S.Store store.old) kind body.now).answer }
+        ensures disk { Left (bulk_data (seen self.old) (disk_of S.Store store.old) kind body.now).written (disk_of S.Store store.old) (disk_of S.Store store.new) }
     {
-        if !same(kind, self.toggles.receiving) {
+        if kind != self.toggles.data_out {
             self.expects = Expectation::Nothing;
             return Answer::Handshake(Handshake::Ack);
         }
-        if self.halts.of_receiving() {
+        if self.halts.is_halted(DataDirection::Out) {
             self.expects = Expectation::Nothing;
             return Answer::Handshake(Handshake::Stall);
         }

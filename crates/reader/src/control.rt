@@ -5,11 +5,11 @@ ghost use Rattle.reader.specs.Control.{addressed, settled, acknowledged, heard_t
 ghost use Rattle.reader.specs.State.{seen};
 ghost use Rattle.reader.specs.declared.state.Request.TheVariants.{ClearHalt};
 
-use super::answer::{Answer, Body};
+use super::answer::Answer;
 use super::phase::Phase;
-use super::state::{Addresses, Core, Expectation, Halts, Request, Toggles, Transfer};
-use packet::{DataKind, Handshake, TokenKind};
-use transport::DataDirection;
+use super::state::{Addresses, Core, Expectation, Halts, Request, Transfer};
+use packet::{Body, DataKind, Handshake, TokenKind};
+use transport::{DataDirection, Toggles};
 
 impl Addresses {
     pub(crate) fn hear(self, address: u8) -> bool
@@ -25,17 +25,9 @@ impl Addresses {
         ensures { result ≡ settled self kind address }
     {
         match self {
-            Addresses::One(only) => Addresses::One(only),
-            Addresses::Two { old, new } => {
-                if address == new {
-                    return Addresses::One(new);
-                }
-                match kind {
-                    TokenKind::Setup => Addresses::One(old),
-                    TokenKind::Out => self,
-                    TokenKind::In => self,
-                }
-            }
+            Addresses::Two { old: _, new } if address == new => Addresses::One(new),
+            Addresses::Two { old, new: _ } if kind == TokenKind::Setup => Addresses::One(old),
+            Addresses::One(_) | Addresses::Two { old: _, new: _ } => self,
         }
     }
 
@@ -43,7 +35,7 @@ impl Addresses {
         ensures { result ≡ acknowledged self }
     {
         match self {
-            Addresses::One(only) => Addresses::One(only),
+            Addresses::One(_) => self,
             Addresses::Two { old: _, new } => Addresses::One(new),
         }
     }
@@ -52,8 +44,7 @@ impl Addresses {
         ensures { result ≡ heard_too self address }
     {
         let old = match self {
-            Addresses::One(only) => only,
-            Addresses::Two { old, new: _ } => old,
+            Addresses::One(old) | Addresses::Two { old, .. } => old,
         };
         if address == old {
             Addresses::One(old)
@@ -66,12 +57,9 @@ impl Addresses {
 fn clear_asked(value: u16, index: u16) -> Transfer
     ensures { result ≡ clear_asked value index }
 {
-    if value != 0 {
-        return Transfer::Stalled;
-    }
-    match index {
-        0x81 => Transfer::Asked(Request::ClearHalt(DataDirection::In)),
-        0x02 => Transfer::Asked(Request::ClearHalt(DataDirection::Out)),
+    match (value, index) {
+        (0, 0x81) => Transfer::Asked(Request::ClearHalt(DataDirection::In)),
+        (0, 0x02) => Transfer::Asked(Request::ClearHalt(DataDirection::Out)),
         _ => Transfer::Stalled,
     }
 }
@@ -81,30 +69,10 @@ fn asked(configured: bool, kind: u8, request: u8, value: u16, index: u16) -> Tra
     ensures { result ≡ asked configured kind request value index }
 {
     match (kind, request) {
-        (0x00, 0x05) => {
-            if value > 127 {
-                return Transfer::Stalled;
-            }
-            Transfer::Asked(Request::SetAddress(value as u8))
-        }
-        (0x00, 0x09) => {
-            if value > 1 {
-                return Transfer::Stalled;
-            }
-            Transfer::Asked(Request::Configure(value == 1))
-        }
-        (0x02, 0x01) => {
-            if !configured {
-                return Transfer::Stalled;
-            }
-            clear_asked(value, index)
-        }
-        (0x21, 0xff) => {
-            if !configured {
-                return Transfer::Stalled;
-            }
-            Transfer::Asked(Request::ResetTransport)
-        }
+        (0x00, 0x05) if value <= 127 => Transfer::Asked(Request::SetAddress(value as u8)),
+        (0x00, 0x09) if value <= 1 => Transfer::Asked(Request::Configure(value == 1)),
+        (0x02, 0x01) if configured => clear_asked(value, index),
+        (0x21, 0xff) if configured => Transfer::Asked(Request::ResetTransport),
         _ => Transfer::Stalled,
     }
 }
@@ -115,7 +83,7 @@ impl Halts {
         ensures { result ≡ halts_kept self }
     {
         match self {
-            Halts::Each { sending, receiving } => Halts::Each { sending, receiving },
+            Halts::Each { .. } => self,
             Halts::Invalid => Halts::Each {
                 sending: true,
                 receiving: true,
@@ -132,22 +100,17 @@ impl Core {
         let Halts::Each { sending, receiving } = self.halts else {
             return;
         };
-        match direction {
-            DataDirection::In => {
-                self.toggles.sending = DataKind::Data0;
-                self.halts = Halts::Each {
-                    sending: false,
-                    receiving,
-                };
-            }
-            DataDirection::Out => {
-                self.toggles.receiving = DataKind::Data0;
-                self.halts = Halts::Each {
-                    sending,
-                    receiving: false,
-                };
-            }
-        }
+        self.toggles = self.toggles.reset(direction);
+        self.halts = match direction {
+            DataDirection::In => Halts::Each {
+                sending: false,
+                receiving,
+            },
+            DataDirection::Out => Halts::Each {
+                sending,
+                receiving: false,
+            },
+        };
     }
 
     // What a request does when its status is first sent.
@@ -160,14 +123,8 @@ impl Core {
             }
             Request::Configure(on) => {
                 self.configured = on;
-                self.toggles = Toggles {
-                    sending: DataKind::Data0,
-                    receiving: DataKind::Data0,
-                };
-                self.halts = Halts::Each {
-                    sending: false,
-                    receiving: false,
-                };
+                self.toggles = Toggles::fresh();
+                self.halts = Halts::NONE;
                 self.phase = Phase::Command;
             }
             Request::ClearHalt(direction) => self.clear_halt(direction),
@@ -177,22 +134,6 @@ impl Core {
             }
         }
     }
-}
-
-fn empty_body() -> Body
-    ensures { result.length ≡ 0 }
-{
-    Body {
-        bytes: [0; 64],
-        length: 0,
-    }
-}
-
-// The 16-bit number in two bytes, low byte first.
-fn word(low: u8, high: u8) -> u16
-    ensures { result ≡ low + high * 256 }
-{
-    u16::from(low) + u16::from(high) * 256
 }
 
 impl Core {
@@ -207,13 +148,13 @@ impl Core {
             Transfer::Stalled => Answer::Handshake(Handshake::Stall),
             Transfer::Answered => {
                 self.expects = Expectation::ControlAck;
-                Answer::Data(DataKind::Data1, empty_body())
+                Answer::Data(DataKind::Data1, Body::empty())
             }
             Transfer::Asked(request) => {
                 self.transfer = Transfer::Answered;
                 self.take_effect(request);
                 self.expects = Expectation::ControlAck;
-                Answer::Data(DataKind::Data1, empty_body())
+                Answer::Data(DataKind::Data1, Body::empty())
             }
         }
     }
@@ -230,8 +171,8 @@ impl Core {
         if body.len() != 8 {
             return Answer::Nothing;
         }
-        let value = word(body[2], body[3]);
-        let index = word(body[4], body[5]);
+        let value = u16::from_le_bytes([body[2], body[3]]);
+        let index = u16::from_le_bytes([body[4], body[5]]);
         self.transfer = asked(self.configured, body[0], body[1], value, index);
         Answer::Handshake(Handshake::Ack)
     }
@@ -243,9 +184,9 @@ impl Core {
     {
         self.expects = Expectation::Nothing;
         match self.transfer {
-            Transfer::None => Answer::Handshake(Handshake::Ack),
-            Transfer::Asked(_) => Answer::Handshake(Handshake::Ack),
-            Transfer::Answered => Answer::Handshake(Handshake::Ack),
+            Transfer::None | Transfer::Asked(_) | Transfer::Answered => {
+                Answer::Handshake(Handshake::Ack)
+            }
             Transfer::Stalled => Answer::Handshake(Handshake::Stall),
         }
     }

@@ -10,9 +10,7 @@ ghost use Rattle.reader.specs.State.{seen, fresh};
 ghost use Rattle.store.specs.Access.{read_answer, read_memory, write_answer, write_sectors, VerdictsKept};
 
 use super::answer::Answer;
-use super::answering::lay;
-use super::phase::Phase;
-use super::state::{Addresses, Core, Expectation, Halts, Toggles, Transfer};
+use super::state::{Core, Expectation};
 use packet::{DataKind, Handshake, Packet, TokenKind, read};
 use store::{Store, StoreRefusal, Verdict};
 
@@ -22,34 +20,13 @@ pub struct Reader<S: Store> {
     store: S,
 }
 
-fn fresh_core() -> Core
-    ensures { seen result ≡ fresh }
-{
-    Core {
-        addresses: Addresses::One(0),
-        configured: false,
-        transfer: Transfer::None,
-        expects: Expectation::Nothing,
-        toggles: Toggles {
-            sending: DataKind::Data0,
-            receiving: DataKind::Data0,
-        },
-        halts: Halts::Each {
-            sending: false,
-            receiving: false,
-        },
-        phase: Phase::Command,
-        buffer: [0; 512],
-    }
-}
-
 impl<S: Store> Reader<S> {
     pub fn new(store: S) -> Self
         ensures state { seen result.core ≡ fresh }
         ensures store { result.store ≡ store }
     {
         Reader {
-            core: fresh_core(),
+            core: Core::fresh(),
             store,
         }
     }
@@ -98,46 +75,31 @@ impl<S: Store> Reader<S> {
         ensures state { seen self.new.core ≡ fresh }
         ensures store { self.new.store ≡ self.old.store }
     {
-        self.core = fresh_core();
+        self.core = Core::fresh();
     }
 
     // A token for an address that is heard.
     fn take_token(&mut self, kind: TokenKind, endpoint: u8) -> Answer
-        ensures state { seen self.new.core ≡ (token_taken kind endpoint (seen self.old.core) (disk_of S.Store.size S.Store.sectors S.Store.verdict self.old.store)).state }
-        ensures answer { answer_seen result ≡ (token_taken kind endpoint (seen self.old.core) (disk_of S.Store.size S.Store.sectors S.Store.verdict self.old.store)).answer }
+        ensures state { seen self.new.core ≡ (token_taken kind endpoint (seen self.old.core) (disk_of S.Store self.old.store)).state }
+        ensures answer { answer_seen result ≡ (token_taken kind endpoint (seen self.old.core) (disk_of S.Store self.old.store)).answer }
         ensures store { self.new.store ≡ self.old.store }
     {
-        self.core.expects = Expectation::Nothing;
-        match kind {
-            TokenKind::Setup => {
-                if endpoint == 0 {
-                    self.core.expects = Expectation::SetupData;
-                }
-                Answer::Nothing
+        self.core.expects = match (kind, endpoint) {
+            (TokenKind::In, 0) => return self.core.hear_control_in(),
+            (TokenKind::In, 1) if self.core.configured => {
+                return self.core.hear_bulk_in(&self.store);
             }
-            TokenKind::Out => {
-                if endpoint == 0 {
-                    self.core.expects = Expectation::ControlData;
-                } else if endpoint == 2 && self.core.configured {
-                    self.core.expects = Expectation::BulkData;
-                }
-                Answer::Nothing
-            }
-            TokenKind::In => {
-                if endpoint == 0 {
-                    return self.core.hear_control_in();
-                }
-                if endpoint == 1 && self.core.configured {
-                    return self.core.hear_bulk_in(&self.store);
-                }
-                Answer::Nothing
-            }
-        }
+            (TokenKind::Setup, 0) => Expectation::SetupData,
+            (TokenKind::Out, 0) => Expectation::ControlData,
+            (TokenKind::Out, 2) if self.core.configured => Expectation::BulkData,
+            _ => Expectation::Nothing,
+        };
+        Answer::Nothing
     }
 
     fn hear_token(&mut self, kind: TokenKind, address: u8, endpoint: u8) -> Answer
-        ensures state { seen self.new.core ≡ (hears_token (seen self.old.core) (disk_of S.Store.size S.Store.sectors S.Store.verdict self.old.store) kind address endpoint).state }
-        ensures answer { answer_seen result ≡ (hears_token (seen self.old.core) (disk_of S.Store.size S.Store.sectors S.Store.verdict self.old.store) kind address endpoint).answer }
+        ensures state { seen self.new.core ≡ (hears_token (seen self.old.core) (disk_of S.Store self.old.store) kind address endpoint).state }
+        ensures answer { answer_seen result ≡ (hears_token (seen self.old.core) (disk_of S.Store self.old.store) kind address endpoint).answer }
         ensures store { self.new.store ≡ self.old.store }
     {
         if !self.core.addresses.hear(address) {
@@ -149,9 +111,9 @@ impl<S: Store> Reader<S> {
     }
 
     fn hear_data(&mut self, kind: DataKind, body: &[u8]) -> Answer
-        ensures state { seen self.new.core ≡ (hears_data self.old.core.expects (seen self.old.core) (disk_of S.Store.size S.Store.sectors S.Store.verdict self.old.store) kind body.now).state }
-        ensures answer { answer_seen result ≡ (hears_data self.old.core.expects (seen self.old.core) (disk_of S.Store.size S.Store.sectors S.Store.verdict self.old.store) kind body.now).answer }
-        ensures disk { Left (hears_data self.old.core.expects (seen self.old.core) (disk_of S.Store.size S.Store.sectors S.Store.verdict self.old.store) kind body.now).written (disk_of S.Store.size S.Store.sectors S.Store.verdict self.old.store) (disk_of S.Store.size S.Store.sectors S.Store.verdict self.new.store) }
+        ensures state { seen self.new.core ≡ (hears_data self.old.core.expects (seen self.old.core) (disk_of S.Store self.old.store) kind body.now).state }
+        ensures answer { answer_seen result ≡ (hears_data self.old.core.expects (seen self.old.core) (disk_of S.Store self.old.store) kind body.now).answer }
+        ensures disk { Left (hears_data self.old.core.expects (seen self.old.core) (disk_of S.Store self.old.store) kind body.now).written (disk_of S.Store self.old.store) (disk_of S.Store self.new.store) }
     {
         match self.core.expects {
             Expectation::SetupData => self.core.hear_setup_data(kind, body),
@@ -171,24 +133,17 @@ impl<S: Store> Reader<S> {
     {
         let expects = self.core.expects;
         self.core.expects = Expectation::Nothing;
-        match handshake {
-            Handshake::Nak => Answer::Nothing,
-            Handshake::Stall => Answer::Nothing,
-            Handshake::Ack => match expects {
-                Expectation::ControlAck => self.core.hear_control_ack(),
-                Expectation::BulkAck => self.core.hear_bulk_ack(),
-                Expectation::SetupData => Answer::Nothing,
-                Expectation::ControlData => Answer::Nothing,
-                Expectation::BulkData => Answer::Nothing,
-                Expectation::Nothing => Answer::Nothing,
-            },
+        match (handshake, expects) {
+            (Handshake::Ack, Expectation::ControlAck) => self.core.hear_control_ack(),
+            (Handshake::Ack, Expectation::BulkAck) => self.core.hear_bulk_ack(),
+            _ => Answer::Nothing,
         }
     }
 
     fn hear_packet(&mut self, packet: Packet<'_>) -> Answer
-        ensures state { seen self.new.core ≡ (hears_packet (seen self.old.core) (disk_of S.Store.size S.Store.sectors S.Store.verdict self.old.store) (parts packet.entry)).state }
-        ensures answer { answer_seen result ≡ (hears_packet (seen self.old.core) (disk_of S.Store.size S.Store.sectors S.Store.verdict self.old.store) (parts packet.entry)).answer }
-        ensures disk { Left (hears_packet (seen self.old.core) (disk_of S.Store.size S.Store.sectors S.Store.verdict self.old.store) (parts packet.entry)).written (disk_of S.Store.size S.Store.sectors S.Store.verdict self.old.store) (disk_of S.Store.size S.Store.sectors S.Store.verdict self.new.store) }
+        ensures state { seen self.new.core ≡ (hears_packet (seen self.old.core) (disk_of S.Store self.old.store) (parts packet.entry)).state }
+        ensures answer { answer_seen result ≡ (hears_packet (seen self.old.core) (disk_of S.Store self.old.store) (parts packet.entry)).answer }
+        ensures disk { Left (hears_packet (seen self.old.core) (disk_of S.Store self.old.store) (parts packet.entry)).written (disk_of S.Store self.old.store) (disk_of S.Store self.new.store) }
     {
         match packet {
             Packet::Token {
@@ -203,10 +158,10 @@ impl<S: Store> Reader<S> {
 
     // Hears an arrival, nothing too, and answers it: the answer's bytes fill the front of the memory, and zeros the rest.
     pub fn hear(&mut self, arrival: &[u8], answer: &mut [u8; 67]) -> usize
-        ensures state { seen self.new.core ≡ (hears (seen self.old.core) (disk_of S.Store.size S.Store.sectors S.Store.verdict self.old.store) (reading arrival.now)).state }
-        ensures count { result ≡ length (answer_bytes (hears (seen self.old.core) (disk_of S.Store.size S.Store.sectors S.Store.verdict self.old.store) (reading arrival.now)).answer) }
-        ensures memory { answer.new ≡ answer_memory (hears (seen self.old.core) (disk_of S.Store.size S.Store.sectors S.Store.verdict self.old.store) (reading arrival.now)).answer }
-        ensures disk { Left (hears (seen self.old.core) (disk_of S.Store.size S.Store.sectors S.Store.verdict self.old.store) (reading arrival.now)).written (disk_of S.Store.size S.Store.sectors S.Store.verdict self.old.store) (disk_of S.Store.size S.Store.sectors S.Store.verdict self.new.store) }
+        ensures state { seen self.new.core ≡ (hears (seen self.old.core) (disk_of S.Store self.old.store) (reading arrival.now)).state }
+        ensures count { result ≡ length (answer_bytes (hears (seen self.old.core) (disk_of S.Store self.old.store) (reading arrival.now)).answer) }
+        ensures memory { answer.new ≡ answer_memory (hears (seen self.old.core) (disk_of S.Store self.old.store) (reading arrival.now)).answer }
+        ensures disk { Left (hears (seen self.old.core) (disk_of S.Store self.old.store) (reading arrival.now)).written (disk_of S.Store self.old.store) (disk_of S.Store self.new.store) }
     {
         let reply = match read(arrival) {
             Ok(packet) => self.hear_packet(packet),
@@ -215,6 +170,6 @@ impl<S: Store> Reader<S> {
                 Answer::Nothing
             }
         };
-        lay(reply, answer)
+        reply.lay(answer)
     }
 }

@@ -14,8 +14,9 @@ mod sending;
 mod stages;
 mod state;
 
-pub use answer::{Answer, Body};
+pub use answer::Answer;
 pub use device::Reader;
+pub use packet::Body;
 pub use phase::{Phase, Receiving, Sending, Source};
 pub use promises::{
     a_repeat_changes_nothing, a_status_answers_its_command, an_answer_is_nothing_or_a_built_packet,
@@ -23,4 +24,5 @@ pub use promises::{
     reset_recovery_ends_every_halt_and_command,
     what_does_not_reach_the_bulk_endpoints_writes_nothing,
 };
-pub use state::{Addresses, Core, Expectation, Halts, Request, Toggles, Transfer};
+pub use state::{Addresses, Core, Expectation, Halts, Request, Transfer};
+pub use transport::Toggles;

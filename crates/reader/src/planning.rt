@@ -33,29 +33,16 @@ pub(crate) fn plan_of(command: Option<Command>, size: u32) -> Plan
             source: Source::Capacity,
             bytes: 8,
         },
-        Some(Command::Read { sector, count }) => {
-            if !inside(size, sector, count) {
-                return Plan::Fails;
-            }
-            if count == 0 {
-                return Plan::Passes;
-            }
-            Plan::Sends {
-                source: Source::Sectors(sector),
-                bytes: u32::from(count) * 512,
-            }
-        }
-        Some(Command::Write { sector, count }) => {
-            if !inside(size, sector, count) {
-                return Plan::Fails;
-            }
-            if count == 0 {
-                return Plan::Passes;
-            }
-            Plan::Receives {
-                sector,
-                bytes: u32::from(count) * 512,
-            }
-        }
+        Some(Command::Read { sector, count } | Command::Write { sector, count })
+            if !inside(size, sector, count) => { Plan::Fails }
+        Some(Command::Read { count: 0, .. } | Command::Write { count: 0, .. }) => Plan::Passes,
+        Some(Command::Read { sector, count }) => Plan::Sends {
+            source: Source::Sectors(sector),
+            bytes: u32::from(count) * 512,
+        },
+        Some(Command::Write { sector, count }) => Plan::Receives {
+            sector,
+            bytes: u32::from(count) * 512,
+        },
     }
 }

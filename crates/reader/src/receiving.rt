@@ -17,65 +17,72 @@ impl Core {
         requires { (receiving.due + 512 < 4294967296) × (receiving.sector + 1 + receiving.left ≤ 67108864) }
         ensures { seen self.new ≡ with_bulk (sector_answered self.old.toggles self.old.halts receiving.tag receiving.due receiving.left receiving.sector self.old.buffer answer).0 (seen self.old) }
     {
-        let tag = receiving.tag;
-        let due = receiving.due;
-        let left = receiving.left;
-        if let Ok(Verdict::Taken) = answer {
-            if left == 0 {
-                return self.end_data(DataDirection::Out, tag, due, Status::Passed);
+        let Receiving {
+            tag,
+            due,
+            left,
+            sector,
+            ..
+        } = receiving;
+        match answer {
+            Ok(Verdict::Taken) if left == 0 => self.end_data(
+                DataDirection::Out,
+                StatusBlock {
+                    tag,
+                    residue: due,
+                    status: Status::Passed,
+                },
+            ),
+            Ok(Verdict::Taken) => {
+                self.phase = Phase::DataOut(Receiving {
+                    tag,
+                    due,
+                    left,
+                    sector: sector + 1,
+                    come: 0,
+                });
             }
-            self.phase = Phase::DataOut(Receiving {
-                tag,
-                due,
-                left,
-                sector: receiving.sector + 1,
-                come: 0,
-            });
-            return;
+            Ok(Verdict::Locked | Verdict::Full) | Err(_) => {
+                if due > 0 {
+                    self.halts = self.halts.halt(DataDirection::Out);
+                }
+                self.phase = Phase::Status {
+                    block: StatusBlock {
+                        tag,
+                        residue: due + 512,
+                        status: Status::Failed,
+                    },
+                    sent: false,
+                };
+            }
         }
-        self.end_data(DataDirection::Out, tag, due, Status::Failed);
-        self.phase = Phase::Status {
-            block: StatusBlock {
-                tag,
-                residue: due + 512,
-                status: Status::Failed,
-            },
-            sent: false,
-        };
     }
 
     // A data packet is taken as data: its bytes join those of the sector that have come, and a whole sector is written.
     pub(crate) fn take_data<S: Store>(&mut self, store: &mut S, receiving: Receiving, body: &[u8])
-        ensures state { seen self.new ≡ with_bulk (take_data self.old.toggles self.old.halts (disk_of S.Store.size S.Store.sectors S.Store.verdict store.old) receiving.tag receiving.due receiving.left receiving.sector (take receiving.come self.old.buffer) body.now).0 (seen self.old) }
-        ensures disk { Left (take_data self.old.toggles self.old.halts (disk_of S.Store.size S.Store.sectors S.Store.verdict store.old) receiving.tag receiving.due receiving.left receiving.sector (take receiving.come self.old.buffer) body.now).1 (disk_of S.Store.size S.Store.sectors S.Store.verdict store.old) (disk_of S.Store.size S.Store.sectors S.Store.verdict store.new) }
+        ensures state { seen self.new ≡ with_bulk (take_data self.old.toggles self.old.halts (disk_of S.Store store.old) receiving.tag receiving.due receiving.left receiving.sector (take receiving.come self.old.buffer) body.now).0 (seen self.old) }
+        ensures disk { Left (take_data self.old.toggles self.old.halts (disk_of S.Store store.old) receiving.tag receiving.due receiving.left receiving.sector (take receiving.come self.old.buffer) body.now).1 (disk_of S.Store store.old) (disk_of S.Store store.new) }
     {
         let expected = receiving.left.min(64);
         if body.len() != expected as usize {
             return self.end_data(
                 DataDirection::Out,
-                receiving.tag,
-                receiving.due,
-                Status::PhaseError,
+                StatusBlock {
+                    tag: receiving.tag,
+                    residue: receiving.due,
+                    status: Status::PhaseError,
+                },
             );
         }
         let end = receiving.come + expected;
         self.buffer[receiving.come as usize..end as usize].copy_from_slice(body);
-        let rest = Receiving {
-            tag: receiving.tag,
-            due: receiving.due.saturating_sub(expected),
-            left: receiving.left - expected,
-            sector: receiving.sector,
-            come: receiving.come,
-        };
+        let mut rest = receiving;
+        rest.due = rest.due.saturating_sub(expected);
+        rest.left -= expected;
         let unfinished = end < 512;
         if unfinished {
-            self.phase = Phase::DataOut(Receiving {
-                tag: rest.tag,
-                due: rest.due,
-                left: rest.left,
-                sector: rest.sector,
-                come: end,
-            });
+            rest.come = end;
+            self.phase = Phase::DataOut(rest);
             return;
         }
         let answer = store.write_sector(rest.sector, &self.buffer);

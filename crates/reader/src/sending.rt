@@ -1,37 +1,30 @@
 // Data that go to the host: the packet that waits, and what its acknowledgement does.
-ghost use Rattle.std.specs.Prelude.{◌≡◌, ◌≤◌, take, drop};
+ghost use Rattle.std.specs.Prelude.{◌≡◌, min, take, drop};
 ghost use Rattle.reader.specs.Control.{with_bulk};
 ghost use Rattle.reader.specs.Disk.{disk_of};
 ghost use Rattle.reader.specs.Stages.{waiting, data_acknowledged};
 ghost use Rattle.reader.specs.State.{seen};
 ghost use Rattle.transport.specs.Statuses.{status_bytes};
 
-use super::answer::Body;
 use super::phase::{Phase, Sending, Source};
 use super::state::Core;
+use packet::Body;
 use store::Store;
 use transport::{DataDirection, Status, StatusBlock, capacity_reply};
 
-// At most so many bytes of a slice from a place on, as a body; there are at most 64 of them.
+// The bytes of a slice from a place on, as a body: so many of them if there are so many, and at most 64.
 fn body_from(bytes: &[u8], place: usize, most: usize) -> Body
-    requires { most ≤ 64 }
-    ensures { take result.length result.bytes ≡ take most (drop place bytes.now) }
+    ensures { result ≡ take (min 64 most) (drop place bytes.now) }
 {
-    let start = place.min(bytes.len());
-    let length = most.min(bytes.len() - start);
-    let mut body = Body {
-        bytes: [0; 64],
-        length,
-    };
-    body.bytes[0..length].copy_from_slice(&bytes[start..start + length]);
-    body
+    let rest = &bytes[place.min(bytes.len())..];
+    Body::of(&rest[..most.min(rest.len())])
 }
 
 // The packet that waits: the next bytes of what the command sends, at most 64.
 pub(crate) fn waiting_body<S: Store>(store: &S, sending: Sending) -> Body
-    ensures { take result.length result.bytes ≡ waiting (disk_of S.Store.size S.Store.sectors S.Store.verdict store.now) sending.left sending.moved sending.source }
+    ensures { result ≡ waiting (disk_of S.Store store.now) sending.left sending.moved sending.source }
 {
-    let most = sending.left.min(64) as usize;
+    let most = sending.left as usize;
     match sending.source {
         Source::Capacity => {
             let reply = capacity_reply(store.sector_count());
@@ -42,7 +35,8 @@ pub(crate) fn waiting_body<S: Store>(store: &S, sending: Sending) -> Body
             let number = first.saturating_add(sending.moved / 512);
             match store.read_sector(number, &mut sector) {
                 Ok(()) => body_from(&sector, (sending.moved % 512) as usize, most),
-                Err(_) => body_from(&[], 0, most),
+                // Past the last sector there is nothing to send.
+                Err(_) => Body::empty(),
             }
         }
     }
@@ -57,7 +51,14 @@ impl Core {
         let due = sending.due.saturating_sub(count);
         let left = sending.left - count;
         if left == 0 {
-            return self.end_data(DataDirection::In, sending.tag, due, Status::Passed);
+            return self.end_data(
+                DataDirection::In,
+                StatusBlock {
+                    tag: sending.tag,
+                    residue: due,
+                    status: Status::Passed,
+                },
+            );
         }
         self.phase = Phase::DataIn(Sending {
             tag: sending.tag,
@@ -71,9 +72,9 @@ impl Core {
 
 // The bytes of a status block, as a body.
 pub(crate) fn status_body(block: StatusBlock) -> Body
-    ensures { take result.length result.bytes ≡ status_bytes block }
+    ensures { result ≡ status_bytes block }
 {
     let mut bytes = [0; 13];
     block.build(&mut bytes);
-    body_from(&bytes, 0, 13)
+    Body::of(&bytes)
 }

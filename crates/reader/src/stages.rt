@@ -11,78 +11,73 @@ use super::state::{Core, Halts};
 use transport::{Command, CommandBlock, DataDirection, Status, StatusBlock};
 
 impl Halts {
-    fn halt(self, direction: DataDirection) -> Halts
+    pub(crate) fn halt(self, direction: DataDirection) -> Halts
         ensures { result ≡ halting direction self }
     {
-        match self {
-            Halts::Invalid => Halts::Invalid,
-            Halts::Each { sending, receiving } => match direction {
-                DataDirection::In => Halts::Each {
-                    sending: true,
-                    receiving,
-                },
-                DataDirection::Out => Halts::Each {
-                    sending,
-                    receiving: true,
-                },
+        match (self, direction) {
+            (Halts::Each { receiving, .. }, DataDirection::In) => Halts::Each {
+                sending: true,
+                receiving,
             },
+            (Halts::Each { sending, .. }, DataDirection::Out) => Halts::Each {
+                sending,
+                receiving: true,
+            },
+            (Halts::Invalid, _) => Halts::Invalid,
         }
     }
 }
 
 impl Core {
-    // Data are over, so many bytes still due: the endpoint halts if there are any, and a status waits.
-    pub(crate) fn end_data(&mut self, direction: DataDirection, tag: u32, due: u32, status: Status)
-        ensures { seen self.new ≡ with_bulk (over self.old.toggles self.old.halts direction tag due status) (seen self.old) }
+    // Data are over: the endpoint halts if bytes are still due, and a status waits.
+    pub(crate) fn end_data(&mut self, direction: DataDirection, block: StatusBlock)
+        ensures { seen self.new ≡ with_bulk (over self.old.toggles self.old.halts direction block.tag block.residue block.status) (seen self.old) }
     {
-        if due > 0 {
+        if block.residue > 0 {
             self.halts = self.halts.halt(direction);
         }
-        self.phase = Phase::Status {
-            block: StatusBlock {
-                tag,
-                residue: due,
-                status,
-            },
-            sent: false,
-        };
+        self.phase = Phase::Status { block, sent: false };
     }
 
     fn begin(&mut self, block: CommandBlock, plan: Plan)
         requires { Bounded plan }
         ensures { seen self.new ≡ with_bulk (begin self.old.toggles self.old.halts block (plan_seen plan)) (seen self.old) }
     {
-        let direction = block.direction;
-        let tag = block.tag;
-        let due = block.length;
-        match plan {
-            Plan::Passes => self.end_data(direction, tag, due, Status::Passed),
-            Plan::Fails => self.end_data(direction, tag, due, Status::Failed),
-            Plan::Sends { source, bytes } => match direction {
-                DataDirection::In if bytes <= due => {
-                    self.phase = Phase::DataIn(Sending {
-                        tag,
-                        due,
-                        left: bytes,
-                        moved: 0,
-                        source,
-                    });
-                }
-                _ => self.end_data(direction, tag, due, Status::PhaseError),
+        let status = match plan {
+            Plan::Sends { source, bytes }
+                if block.direction == DataDirection::In && bytes <= block.length => {
+                self.phase = Phase::DataIn(Sending {
+                    tag: block.tag,
+                    due: block.length,
+                    left: bytes,
+                    moved: 0,
+                    source,
+                });
+                return;
+            }
+            Plan::Receives { sector, bytes }
+                if block.direction == DataDirection::Out && bytes <= block.length => {
+                self.phase = Phase::DataOut(Receiving {
+                    tag: block.tag,
+                    due: block.length,
+                    left: bytes,
+                    sector,
+                    come: 0,
+                });
+                return;
+            }
+            Plan::Sends { .. } | Plan::Receives { .. } => Status::PhaseError,
+            Plan::Passes => Status::Passed,
+            Plan::Fails => Status::Failed,
+        };
+        self.end_data(
+            block.direction,
+            StatusBlock {
+                tag: block.tag,
+                residue: block.length,
+                status,
             },
-            Plan::Receives { sector, bytes } => match direction {
-                DataDirection::Out if bytes <= due => {
-                    self.phase = Phase::DataOut(Receiving {
-                        tag,
-                        due,
-                        left: bytes,
-                        sector,
-                        come: 0,
-                    });
-                }
-                _ => self.end_data(direction, tag, due, Status::PhaseError),
-            },
-        }
+        );
     }
 
     // A data packet is taken as a command block.

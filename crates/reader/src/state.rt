@@ -1,7 +1,9 @@
 // The reader's state but for its store.
+ghost use Rattle.std.specs.Prelude.{◌≡◌};
+ghost use Rattle.reader.specs.State.{seen, fresh};
+
 use super::phase::Phase;
-use packet::DataKind;
-use transport::DataDirection;
+use transport::{DataDirection, Toggles};
 
 // The address that the reader hears; while a new one is being set, the old one and the new.
 #[derive(Clone, Copy)]
@@ -40,13 +42,6 @@ pub enum Expectation {
     BulkAck,
 }
 
-// The toggles of the endpoint that sends (1 IN) and of the one that receives (2 OUT).
-#[derive(Clone, Copy)]
-pub struct Toggles {
-    pub sending: DataKind,
-    pub receiving: DataKind,
-}
-
 // Which endpoints are halted. After an invalid block both are, and clear halt does nothing before a reset of the
 // transport or a configuration.
 #[derive(Clone, Copy)]
@@ -55,7 +50,15 @@ pub enum Halts {
     Invalid,
 }
 
-// The bytes of a sector that is being received stand in the front of the buffer.
+impl Halts {
+    pub(crate) const NONE: Halts = Halts::Each {
+        sending: false,
+        receiving: false,
+    };
+}
+
+// Data in are those of the endpoint that sends (1 IN), data out those of the one that receives (2 OUT). The bytes of a
+// sector that is being received stand in the front of the buffer.
 #[derive(Clone, Copy)]
 pub struct Core {
     pub addresses: Addresses,
@@ -66,4 +69,22 @@ pub struct Core {
     pub halts: Halts,
     pub phase: Phase,
     pub buffer: [u8; 512],
+}
+
+impl Core {
+    // As after a port reset.
+    pub(crate) fn fresh() -> Core
+        ensures { seen result ≡ fresh }
+    {
+        Core {
+            addresses: Addresses::One(0),
+            configured: false,
+            transfer: Transfer::None,
+            expects: Expectation::Nothing,
+            toggles: Toggles::fresh(),
+            halts: Halts::NONE,
+            phase: Phase::Command,
+            buffer: [0; 512],
+        }
+    }
 }

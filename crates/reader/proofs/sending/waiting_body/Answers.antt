@@ -1,4 +1,4 @@
-use Rattle.std.proofs.Common.{◌≡◌, ℕ, zero, suc, ◌+◌, ◌/◌, ◌%◌, ◌<◌, ◌≤◌, min, List, [], length, get_or, take, drop, Ok, Err, sym, refl, ap, ◌∙◌, inl, inr, arith}
+use Rattle.std.proofs.Common.{◌≡◌, ℕ, ◌+◌, ◌/◌, ◌%◌, ◌<◌, ◌≤◌, min, List, [], length, get_or, take, drop, Ok, Err, sym, ap, ◌∙◌, inl, inr, arith}
 use Rattle.std.proofs.lemmas.Bool.{cases_lt, cond-true, lt-ltb}
 use Rattle.reader.specs.Disk.{all_bytes, disk_of}
 use Rattle.reader.specs.Stages.{waiting}
@@ -8,19 +8,17 @@ use Rattle.store.proofs.Accesses.{allowed_access}
 use Rattle.reader.proofs.Parts.{Whole, within_a_sector, past_the_sectors}
 use Rattle.reader.proofs.sending.waiting_body.Goals as goal
 
-module _ (size : ℕ) (sectors : List (List ℕ)) (first moved left n number : ℕ) (bound : size ≤ 65536) (count : length sectors ≡ size) (lengths : (i : ℕ) → i < size → length (get_or sectors i []) ≡ 512) (capped : number ≡ min (first + moved / 512) 4294967295) (most : n ≡ min left 64) (packets : moved % 64 ≡ 0) where
+module _ (size : ℕ) (sectors : List (List ℕ)) (first moved left number : ℕ) (bound : size ≤ 65536) (count : length sectors ≡ size) (lengths : (i : ℕ) → i < size → length (get_or sectors i []) ≡ 512) (capped : number ≡ min (first + moved / 512) 4294967295) (packets : moved % 64 ≡ 0) where
   whole : Whole sectors
   whole i h = lengths i (omega arith)
 
-  read_part : (memory : List ℕ) → number < size → memory ≡ get_or sectors number [] → take n (drop (moved % 512) memory) ≡ take (min 64 left) (drop moved (all_bytes (drop first sectors)))
+  read_part : (memory : List ℕ) → number < size → memory ≡ get_or sectors number [] → take (min 64 left) (drop (moved % 512) memory) ≡ take (min 64 left) (drop moved (all_bytes (drop first sectors)))
   read_part memory inside same =
       let place : first + moved / 512 ≡ number = omega arith in
-      let few : n ≡ min 64 left = omega arith in
       let within : first + moved / 512 < length sectors = omega arith in
-      let room : moved % 512 + n ≤ 512 = omega arith in
-      ap (λ l. take n (drop (moved % 512) l)) (same ∙ ap (λ i. get_or sectors i []) (sym place))
-      ∙ sym (within_a_sector sectors first moved n whole within room)
-      ∙ ap (λ k. take k (drop moved (all_bytes (drop first sectors)))) few
+      let room : moved % 512 + min 64 left ≤ 512 = omega arith in
+      ap (λ l. take (min 64 left) (drop (moved % 512) l)) (same ∙ ap (λ i. get_or sectors i []) (sym place))
+      ∙ sym (within_a_sector sectors first moved (min 64 left) whole within room)
 
   no_part : size ≤ number → [] ≡ take (min 64 left) (drop moved (all_bytes (drop first sectors)))
   no_part outside = sym (past_the_sectors sectors first moved (min 64 left) whole (omega arith))
@@ -36,10 +34,6 @@ outside size number e is =
       | inr past ↦ past
     ]
 
-take_nil : (k : ℕ) → take {A = ℕ} k [] ≡ []
-take_nil zero = refl
-take_nil (suc k) = refl
-
 pub returns-in-Ok : goal.returns-in-Ok
 returns-in-Ok g c =
     let laws = g.met.S.Store in
@@ -48,8 +42,8 @@ returns-in-Ok g c =
     let capped : c.saturating_add-number.result ≡ min (c.in-Sectors.first + c.args.sending.moved / 512) 4294967295 = omega arith in
     let allowed = allowed_access (g.S.Store.size store) c.saturating_add-number.result 512 tt c.in-Ok.field-0 told.answer in
     c.body_from-in-Ok.ensures
-    ∙ read_part (g.S.Store.size store) (g.S.Store.sectors store) c.in-Sectors.first c.args.sending.moved c.args.sending.left c.min-most.result c.saturating_add-number.result (laws.bounds store).1 (laws.count store) (laws.lengths store) capped c.min-most.ensures c.args.sending.packets _ allowed.0 told.memory
-    ∙ ap (waiting (disk_of g.S.Store.size g.S.Store.sectors g.S.Store.verdict store) c.args.sending.left c.args.sending.moved) (sym c.in-Sectors.is)
+    ∙ read_part (g.S.Store.size store) (g.S.Store.sectors store) c.in-Sectors.first c.args.sending.moved c.args.sending.left c.saturating_add-number.result (laws.bounds store).1 (laws.count store) (laws.lengths store) capped c.args.sending.packets _ allowed.0 told.memory
+    ∙ ap (waiting (disk_of g.S.Store store) c.args.sending.left c.args.sending.moved) (sym c.in-Sectors.is)
 
 pub returns-in-Err : goal.returns-in-Err
 returns-in-Err g c =
@@ -58,6 +52,6 @@ returns-in-Err g c =
     let told = c.in-Err.ensures in
     let capped : c.saturating_add-number.result ≡ min (c.in-Sectors.first + c.args.sending.moved / 512) 4294967295 = omega arith in
     let past = outside (g.S.Store.size store) c.saturating_add-number.result c.in-Err.field-0 told.answer in
-    c.body_from-in-Err.ensures ∙ take_nil c.min-most.result
-    ∙ no_part (g.S.Store.size store) (g.S.Store.sectors store) c.in-Sectors.first c.args.sending.moved c.args.sending.left c.min-most.result c.saturating_add-number.result (laws.bounds store).1 (laws.count store) (laws.lengths store) capped c.min-most.ensures c.args.sending.packets past
-    ∙ ap (waiting (disk_of g.S.Store.size g.S.Store.sectors g.S.Store.verdict store) c.args.sending.left c.args.sending.moved) (sym c.in-Sectors.is)
+    c.empty.ensures
+    ∙ no_part (g.S.Store.size store) (g.S.Store.sectors store) c.in-Sectors.first c.args.sending.moved c.args.sending.left c.saturating_add-number.result (laws.bounds store).1 (laws.count store) (laws.lengths store) capped c.args.sending.packets past
+    ∙ ap (waiting (disk_of g.S.Store store) c.args.sending.left c.args.sending.moved) (sym c.in-Sectors.is)

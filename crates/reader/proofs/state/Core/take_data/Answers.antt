@@ -20,7 +20,7 @@ returns-then-unfinished g c =
     let is : c.min-expected.result ≡ length c.args.body.now = omega arith in
     let fits : c.min-expected.result ≡ min 64 r.left = omega arith in
     let few : length (take r.come self.buffer) + c.min-expected.result < 512 = omega arith in
-    let disk = disk_of g.S.Store.size g.S.Store.sectors g.S.Store.verdict c.args.store.now in
+    let disk = disk_of g.S.Store c.args.store.now in
     record {
       state = part_state self.toggles self.halts disk r.tag r.due r.left r.sector (take r.come self.buffer) c.args.body.now _ is fits (seen self) _ _ c.saturating_sub.ensures (joined_in_buffer _ _ _ _ _ within c.copy_from_slice.ensures.after is) few;
       disk = part_disk self.toggles self.halts disk r.tag r.due r.left r.sector (take r.come self.buffer) c.args.body.now _ is fits few;
@@ -39,7 +39,7 @@ returns g c =
     let is : c.min-expected.result ≡ length c.args.body.now = omega arith in
     let fits : c.min-expected.result ≡ min 64 r.left = omega arith in
     let all : length (take r.come self.buffer) + c.min-expected.result ≡ 512 = omega (arith, r.room, r.packets) in
-    let disk = disk_of g.S.Store.size g.S.Store.sectors g.S.Store.verdict c.args.store.now in
+    let disk = disk_of g.S.Store c.args.store.now in
     let told = c.write_sector-answer.ensures in
     let bytes = put_mid r.come (r.come + c.min-expected.result - r.come) self.buffer c.copy_from_slice.new.self in
     let front = joined_in_buffer r.come c.min-expected.result self.buffer c.args.body.now c.copy_from_slice.new.self within c.copy_from_slice.ensures.after is in
