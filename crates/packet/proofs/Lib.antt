@@ -5,3 +5,4 @@ pub mod RoundTrip
 pub mod WrongCheck
 pub mod NoPacket
 pub mod Numbers
+pub mod Words

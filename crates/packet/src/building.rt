@@ -40,10 +40,11 @@ fn build_token(
     let word = u16::from(address)
         + u16::from(endpoint) * 128
         + token_check(address, endpoint) * 2048;
+    let [low, high] = word.to_le_bytes();
     *out = [0; 67];
     out[0] = u8::from(Kind::Token(kind));
-    out[1] = (word % 256) as u8;
-    out[2] = (word / 256) as u8;
+    out[1] = low;
+    out[2] = high;
     Ok(3)
 }
 
@@ -55,12 +56,12 @@ fn build_data(kind: DataKind, body: &[u8], out: &mut [u8; 67]) -> Result<usize, 
     if length > 64 {
         return Err(Refusal::TooWide);
     }
-    let check = body_check(body);
+    let [low, high] = body_check(body).to_le_bytes();
     *out = [0; 67];
     out[0] = u8::from(Kind::Data(kind));
     out[1..length + 1].copy_from_slice(body);
-    out[length + 1] = (check % 256) as u8;
-    out[length + 2] = (check / 256) as u8;
+    out[length + 1] = low;
+    out[length + 2] = high;
     Ok(length + 3)
 }
 

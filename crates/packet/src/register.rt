@@ -110,7 +110,8 @@ impl<R: Check> Register<R> {
 
     // The check that is left: the content complemented, its top bit in the lowest bit of the check field.
     pub fn check(&self) -> u16
-        ensures { result ≡ finished R.WIDTH self.now.content }
+        ensures check { result ≡ finished R.WIDTH self.now.content }
+        ensures width { result < 2 ^ R.WIDTH }
     {
         mirror(self.content ^ ones::<R>(), R::WIDTH)
     }
@@ -119,7 +120,8 @@ impl<R: Check> Register<R> {
 // The lowest so many bits of a number in the opposite order.
 fn mirror(number: u16, count: u32) -> u16
     requires { (0 < count) × (count ≤ 16) }
-    ensures { result ≡ mirrored count number }
+    ensures mirror { result ≡ mirrored count number }
+    ensures width { result < 2 ^ count }
 {
     number.reverse_bits() >> (16 - count)
 }
