@@ -1,6 +1,8 @@
-// What a store answers: its verdict on a write, or why it refuses an access, with a number.
-ghost use Rattle.std.specs.Prelude.{◌≡◌};
-ghost use Rattle.store.specs.Refusals.{refusal_number};
+// What a store answers: its verdict on a write, or why it refuses an access, each with its text.
+ghost use Rattle.std.specs.Prelude.{◌≡◌, Some};
+ghost use Rattle.store.specs.Refusals.{refusal_number, refusal_text, verdict_text};
+
+use std::fmt;
 
 // What becomes of a write that is not refused.
 #[derive(Clone, Copy, PartialEq, Eq)]
@@ -13,19 +15,47 @@ pub enum Verdict {
     Full,
 }
 
+impl fmt::Display for Verdict {
+    ghost output = { λ verdict. Some (verdict_text verdict) };
+
+    fn fmt<W: fmt::Write>(&self, f: &mut fmt::Formatter<W>) -> fmt::Result {
+        f.write_str(match self {
+            Verdict::Taken => "taken",
+            Verdict::Locked => "locked",
+            Verdict::Full => "full",
+        })
+    }
+}
+
 #[derive(Clone, Copy, PartialEq, Eq)]
 pub enum StoreRefusal {
     PastTheEnd,
     WrongBuffer,
 }
 
+impl From<StoreRefusal> for u8 {
+    ghost from_gives = { λ refusal number. number ≡ refusal_number refusal };
+
+    fn from(refusal: StoreRefusal) -> u8 {
+        match refusal {
+            StoreRefusal::PastTheEnd => 11,
+            StoreRefusal::WrongBuffer => 12,
+        }
+    }
+}
+
+impl fmt::Display for StoreRefusal {
+    ghost output = { λ refusal. Some (refusal_text refusal) };
+
+    fn fmt<W: fmt::Write>(&self, f: &mut fmt::Formatter<W>) -> fmt::Result {
+        write!(f, "refused {}", u8::from(*self))
+    }
+}
+
 impl StoreRefusal {
     pub fn number(self) -> u8
         ensures { result ≡ refusal_number self }
     {
-        match self {
-            StoreRefusal::PastTheEnd => 11,
-            StoreRefusal::WrongBuffer => 12,
-        }
+        self.into()
     }
 }
