@@ -10,11 +10,11 @@ pub(crate) fn lay(bytes: &[u8], heard: &mut [u8; 67]) -> usize
 {
     let count = bytes.len();
     *heard = [0; 67];
-    heard[0..count].copy_from_slice(bytes);
+    heard[..count].copy_from_slice(bytes);
     count
 }
 
-// A tally that grows by one, up to 255.
+// A tally that grows by one, up to 255. The wires hold it as a number: any u8 is a tally, so a type would say no more.
 pub(crate) fn grown(tally: u8) -> u8
     ensures { result ≡ one_more tally }
 {

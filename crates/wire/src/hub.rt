@@ -1,7 +1,7 @@
 // The hub: any two wires behind a port that is open or closed; itself a wire, with its own tally.
 ghost use Rattle.std.specs.Prelude.{◌≡◌};
 ghost use Rattle.wire.specs.Carrying.{Carries, one_more};
-ghost use Rattle.wire.specs.Hubs.{Passes, ByPort, with_first, with_second, with_port, with_tally};
+ghost use Rattle.wire.specs.Hubs.{Through, Passes, ByPort, with_first, with_second, with_port, with_tally};
 ghost use Rattle.wire.specs.declared.hub.Port.TheVariants.{Open, Closed};
 
 use super::arrival::{grown, lay};
@@ -93,16 +93,10 @@ impl<F: Wire, S: Wire> Hub<F, S> {
         ensures port { self.new.port ≡ self.old.port }
         ensures tally { self.new.tally ≡ self.old.tally }
     {
-        let mut middle = [0; 67];
+        let (first, second) = (&mut self.first, &mut self.second);
         match direction {
-            Direction::Outward => {
-                let count = self.first.carry(direction, sent, &mut middle);
-                self.second.carry(direction, &middle[0..count], heard)
-            }
-            Direction::Homeward => {
-                let count = self.second.carry(direction, sent, &mut middle);
-                self.first.carry(direction, &middle[0..count], heard)
-            }
+            Direction::Outward => in_turn(first, second, direction, sent, heard),
+            Direction::Homeward => in_turn(second, first, direction, sent, heard),
         }
     }
 
@@ -124,6 +118,21 @@ impl<F: Wire, S: Wire> Hub<F, S> {
     {
         self.tally = grown(self.tally);
     }
+}
+
+// Over the one wire, and what arrives there over the other.
+fn in_turn<N: Wire, F: Wire>(
+    near: &mut N,
+    far: &mut F,
+    direction: Direction,
+    sent: &[u8],
+    heard: &mut [u8; 67],
+) -> usize
+    ensures { Through sent.now (N.Wire.tally near.old) (N.Wire.tally near.new) (F.Wire.tally far.old) (F.Wire.tally far.new) result heard.new }
+{
+    let mut middle = [0; 67];
+    let count = near.carry(direction, sent, &mut middle);
+    far.carry(direction, &middle[..count], heard)
 }
 
 impl<F: Wire, S: Wire> Wire for Hub<F, S> {

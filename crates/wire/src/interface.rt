@@ -19,7 +19,8 @@ pub trait Wire {
     fn tell(&self) -> u8
         ensures { result ≡ tally self.now };
 
-    // Carries bytes and answers how many arrive: they fill the front of the memory, and zeros the rest.
+    // Carries bytes and answers how many arrive: they fill the front of the memory, and zeros the rest. The memory is a
+    // fixed one beside its count, since nothing on the way of a packet may use the heap.
     fn carry(&mut self, direction: Direction, sent: &[u8], heard: &mut [u8; 67]) -> usize
         ensures { Carries sent.now (tally self.old) result heard.new (tally self.new) };
 }

@@ -2,11 +2,32 @@
 ghost use Rattle.std.specs.Prelude.{◌≡◌, ◌+◌, ◌<◌, ◌≤◌, length, if◌then◌else◌, nat_lt};
 ghost use Rattle.packet.specs.Reading.{reading};
 ghost use Rattle.wire.specs.Carrying.{Carries, laid};
-ghost use Rattle.wire.specs.Scripts.{entry_at, is_packet, flipped, unless_packet, scripted_arrival, place_after, tally_after};
+ghost use Rattle.wire.specs.Scripts.{entry_of, entry_at, is_packet, with_bit_flipped, unless_packet, scripted_arrival, place_after, tally_after};
 
 use super::arrival::{grown, lay};
 use super::interface::{Direction, Wire};
 use packet::read;
+
+// What an entry does to what is sent.
+#[derive(Clone, Copy)]
+enum Entry {
+    Deliver,
+    Lose,
+    // Bits are counted from the first byte's low bit, and from there again behind the last.
+    Flip { bit: u16 },
+}
+
+impl From<u16> for Entry {
+    ghost from_gives = { λ number entry. entry ≡ entry_of number };
+
+    fn from(number: u16) -> Entry {
+        match number {
+            0 => Entry::Deliver,
+            65535 => Entry::Lose,
+            _ => Entry::Flip { bit: number - 1 },
+        }
+    }
+}
 
 #[derive(Drop)]
 pub struct ScriptedWire {
@@ -41,41 +62,38 @@ impl ScriptedWire {
         self.place
     }
 
-    // The entry for this sending; past the end of the script, 0.
-    fn next_entry(&mut self) -> u16
+    // The entry for this sending; past its end a script delivers.
+    fn next_entry(&mut self) -> Entry
         ensures value { result ≡ entry_at self.old.script.items self.old.place }
         ensures place { self.new.place ≡ (if nat_lt self.old.place (length self.old.script.items) then self.old.place + 1 else self.old.place) }
         ensures script { self.new.script ≡ self.old.script }
         ensures tally { self.new.tally ≡ self.old.tally }
     {
-        let place = self.place;
-        if place >= self.script.len() {
-            return 0;
-        }
-        self.place = place + 1;
-        self.script[place]
+        let Some(number) = self.script.get(self.place) else {
+            return Entry::Deliver;
+        };
+        let entry = Entry::from(*number);
+        self.place += 1;
+        entry
     }
 }
 
 fn reads_as_packet(bytes: &[u8]) -> bool
     ensures { result ≡ is_packet (reading bytes.now) }
 {
-    match read(bytes) {
-        Ok(_) => true,
-        Err(_) => false,
-    }
+    read(bytes).is_ok()
 }
 
-// The bytes with the entry's bit flipped arrive, unless that makes a packet of them.
-fn flip(entry: u16, sent: &[u8], heard: &mut [u8; 67]) -> usize
-    requires { (0 < entry) × (0 < length sent.now) × (length sent.now ≤ 67) }
-    ensures count { result ≡ length (unless_packet (flipped entry sent.now)) }
-    ensures memory { heard.new ≡ laid (unless_packet (flipped entry sent.now)) }
+// The bytes with the bit flipped arrive, unless that makes a packet of them.
+fn flip(bit: u16, sent: &[u8], heard: &mut [u8; 67]) -> usize
+    requires { (0 < length sent.now) × (length sent.now ≤ 67) }
+    ensures count { result ≡ length (unless_packet (with_bit_flipped bit sent.now)) }
+    ensures memory { heard.new ≡ laid (unless_packet (with_bit_flipped bit sent.now)) }
 {
     let count = lay(sent, heard);
-    let bit = (usize::from(entry) - 1) % (8 * count);
+    let bit = usize::from(bit) % (8 * count);
     heard[bit / 8] ^= 1 << (bit % 8);
-    if reads_as_packet(&heard[0..count]) {
+    if reads_as_packet(&heard[..count]) {
         return lay(&[], heard);
     }
     count
@@ -112,14 +130,16 @@ impl Wire for ScriptedWire {
             self.tally = grown(self.tally);
             return lay(&[], heard);
         }
-        let entry = self.next_entry();
-        if entry == 0 {
-            return lay(sent, heard);
+        match self.next_entry() {
+            Entry::Deliver => lay(sent, heard),
+            Entry::Lose => {
+                self.tally = grown(self.tally);
+                lay(&[], heard)
+            }
+            Entry::Flip { bit } => {
+                self.tally = grown(self.tally);
+                flip(bit, sent, heard)
+            }
         }
-        self.tally = grown(self.tally);
-        if entry == 65535 {
-            return lay(&[], heard);
-        }
-        flip(entry, sent, heard)
     }
 }
