@@ -1,5 +1,5 @@
 -- What a bulk endpoint sends stays the same until it is acknowledged.
-use Rattle.std.proofs.Common.{◌≡◌, ℕ, Bool, true, false, cond, not, ◌&&◌, eqb, List, [], ◌∷◌, length, Some, None, sym, refl, ap, ◌∙◌}
+use Rattle.std.proofs.Common.{◌≡◌, ℕ, Bool, true, false, cond, not, ◌&&◌, eqb, List, [], ◌∷◌, length, sym, refl, ap, ◌∙◌}
 use Rattle.std.proofs.lemmas.Bool.{cond-true, and_right, true≢false}
 use Rattle.packet.specs.declared.kind.DataKind.{DataKind}
 use Rattle.packet.specs.declared.kind.Handshake.TheVariants.{Ack, Nak, Stall}
@@ -15,14 +15,14 @@ use Rattle.reader.specs.declared.state.Transfer.TheVariants.{None as NoTransfer,
 use Rattle.reader.specs.Answers.{Answer, says, acks, naks, stalls}
 use Rattle.reader.specs.BulkEnds.{Outcome, unwritten, same_kind, sending_halted, receiving_halted, wanted, offered}
 use Rattle.reader.specs.Control.{expecting, with_control, with_addresses, addressed, settled, answers_in, is_data0}
-use Rattle.reader.specs.Disk.{Disk, Written}
+use Rattle.reader.specs.Disk.{Disk}
 use Rattle.reader.specs.Hears.{hears, hears_data, hears_ack, token_taken, ignored}
-use Rattle.reader.specs.Promises.{asks, Completes, WhatDoesNotReachTheBulkEndpointsWritesNothing, AnUnacknowledgedPacketIsSentAgainUnchanged}
+use Rattle.reader.specs.Promises.{asks, AnUnacknowledgedPacketIsSentAgainUnchanged}
 use Rattle.reader.specs.Reaching.{wants, takes, counts_for_bulk, changes_bulk, reaches_bulk, NoneReachesBulk}
 use Rattle.reader.specs.Runs.{heard_all}
 use Rattle.reader.specs.Stages.{waiting}
 use Rattle.reader.specs.State.{State, Bulk, Phase, command, data_in, data_out, status}
-use Rattle.reader.proofs.Heard.{either, only_a_completed_sector_reaches_the_disk}
+use Rattle.reader.proofs.Heard.{either}
 use Rattle.transport.specs.Statuses.{status_bytes}
 
 -- the bulk endpoints but for whether a status has been sent
@@ -167,18 +167,3 @@ an_unacknowledged_packet_is_sent_again_unchanged s d a between p on heard sent n
     ∙ ap (λ b. answer_by b d) kept.0
     ∙ sym (answered_by s d a on heard)
     ∙ sent
-
--- data that complete a sector are taken
-completing_reaches : (s : State) (d : Disk) (r : Reading) (sector : ℕ) (bytes : List ℕ) → Completes s d r sector bytes → reaches_bulk s r ≡ true
-completing_reaches s d r sector bytes c =
-    ap (reaches_bulk s) c.heard
-    ∙ ap (λ x. takes x s c.kind) c.expected
-    ∙ (λ i. c.in_turn i && (not (c.alive i) && wants (c.phase i)))
-
-pub what_does_not_reach_the_bulk_endpoints_writes_nothing : WhatDoesNotReachTheBulkEndpointsWritesNothing
-what_does_not_reach_the_bulk_endpoints_writes_nothing s d r is = go (hears s d r).written refl
-  where
-    go : (w : Written) → (hears s d r).written ≡ w → w ≡ None
-    go None e = refl
-    go (Some w) e =
-        absurd (true≢false (sym (completing_reaches s d r w.0 w.1 (only_a_completed_sector_reaches_the_disk s d r w.0 w.1 e)) ∙ is))
