@@ -4,7 +4,7 @@ ghost use Rattle.packet.specs.Parts.{parts, token, data_packet, handshake};
 
 use super::{DataKind, Handshake, TokenKind};
 
-#[derive(Clone, Copy)]
+#[derive(Clone, Copy, PartialEq, Eq)]
 pub enum Packet<'a> {
     Token {
         kind: TokenKind,

@@ -3,69 +3,35 @@
 #![tactic(auto)]
 
 use anyhow::anyhow;
+use score::Score;
 
 mod noise;
 mod published;
 mod refusals;
+mod score;
 mod stores;
 mod there_and_back;
 mod wires;
-
-// How many vectors agreed and how many differed.
-#[derive(Clone, Copy)]
-pub struct Score {
-    agreed: u32,
-    differed: u32,
-}
-
-impl Score {
-    fn none() -> Score {
-        Score {
-            agreed: 0,
-            differed: 0,
-        }
-    }
-
-    fn count(&mut self, same: bool) {
-        if same {
-            self.agreed = self.agreed.saturating_add(1);
-        } else {
-            self.differed = self.differed.saturating_add(1);
-        }
-    }
-
-    fn add(&mut self, more: Score) {
-        self.agreed = self.agreed.saturating_add(more.agreed);
-        self.differed = self.differed.saturating_add(more.differed);
-    }
-
-    fn show(self, rt: &HostRuntime, name: &str) -> anyhow::Result<()> {
-        let agreed = self.agreed;
-        let differed = self.differed;
-        println!(rt; "{name}: {agreed} agree, {differed} differ")?;
-        Ok(())
-    }
-}
 
 fn main(rt: HostRuntime) -> anyhow::Result<()> {
     run(&rt)
 }
 
 fn run(rt: &HostRuntime) -> anyhow::Result<()> {
-    let mut all = Score::none();
-    all.add(published::tokens(rt)?);
-    all.add(published::bodies(rt)?);
-    all.add(refusals::reading(rt)?);
-    all.add(refusals::building(rt)?);
-    all.add(there_and_back::tokens(rt)?);
-    all.add(there_and_back::bodies(rt)?);
-    all.add(there_and_back::handshakes(rt)?);
-    all.add(wires::noise(rt)?);
-    all.add(wires::hubs(rt)?);
-    all.add(stores::refusals(rt)?);
-    all.add(stores::verdicts(rt)?);
-    all.show(rt, "all")?;
-    if all.differed != 0 {
+    let mut all = Score::default();
+    all += published::tokens(rt)?;
+    all += published::bodies(rt)?;
+    all += refusals::reading(rt)?;
+    all += refusals::building(rt)?;
+    all += there_and_back::tokens(rt)?;
+    all += there_and_back::bodies(rt)?;
+    all += there_and_back::handshakes(rt)?;
+    all += wires::noise(rt)?;
+    all += wires::hubs(rt)?;
+    all += stores::refusals(rt)?;
+    all += stores::verdicts(rt)?;
+    println!(rt; "all: {all}")?;
+    if all.any_differed() {
         return Err(anyhow!("a vector differs"));
     }
     Ok(())

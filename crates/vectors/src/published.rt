@@ -1,5 +1,5 @@
 // The checks that USB publishes, as bits in the order of sending, and the well-known check value of CRC-16/USB.
-use super::Score;
+use super::score::Score;
 use packet::{body_check, token_check};
 
 // The lowest bits of a check are the given ones, in the order of sending.
@@ -15,21 +15,21 @@ fn sent_as(check: u16, bits: &[u8]) -> bool {
 }
 
 pub fn tokens(rt: &HostRuntime) -> anyhow::Result<Score> {
-    let mut score = Score::none();
+    let mut score = Score::default();
     score.count(sent_as(token_check(0x15, 0xe), &[1, 0, 1, 1, 1]));
     score.count(sent_as(token_check(0x3a, 0xa), &[1, 1, 1, 0, 0]));
     score.count(sent_as(token_check(0x70, 0x4), &[0, 1, 1, 1, 0]));
-    score.show(rt, "published checks of tokens")?;
+    println!(rt; "published checks of tokens: {score}")?;
     Ok(score)
 }
 
 pub fn bodies(rt: &HostRuntime) -> anyhow::Result<Score> {
-    let mut score = Score::none();
+    let mut score = Score::default();
     let first = body_check(&[0x00, 0x01, 0x02, 0x03]);
     score.count(sent_as(first, &[1, 1, 1, 1, 0, 1, 1, 1, 0, 1, 0, 1, 1, 1, 1, 0]));
     let second = body_check(&[0x23, 0x45, 0x67, 0x89]);
     score.count(sent_as(second, &[0, 1, 1, 1, 0, 0, 0, 0, 0, 0, 1, 1, 1, 0, 0, 0]));
     score.count(body_check(b"123456789") == 0xb4c8);
-    score.show(rt, "published checks of bodies")?;
+    println!(rt; "published checks of bodies: {score}")?;
     Ok(score)
 }

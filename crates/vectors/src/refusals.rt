@@ -1,16 +1,13 @@
 // The examples of each refusal.
-use super::Score;
+use super::score::Score;
 use packet::{DataKind, Packet, TokenKind, read};
 
 fn refused_by(bytes: &[u8], number: u8) -> bool {
-    match read(bytes) {
-        Ok(_) => false,
-        Err(refusal) => refusal.number() == number,
-    }
+    read(bytes).is_err_and(|refusal| u8::from(refusal) == number)
 }
 
 pub fn reading(rt: &HostRuntime) -> anyhow::Result<Score> {
-    let mut score = Score::none();
+    let mut score = Score::default();
     score.count(refused_by(&[], 20));
     score.count(refused_by(&[0xe0], 21));
     score.count(refused_by(&[0xf0], 22));
@@ -21,17 +18,15 @@ pub fn reading(rt: &HostRuntime) -> anyhow::Result<Score> {
     score.count(refused_by(&[0xc3; 68], 23));
     score.count(refused_by(&[0x69, 0x81, 0x59], 24));
     score.count(refused_by(&[0x4b, 0x00, 0x01], 24));
-    score.show(rt, "refusals of reading")?;
+    println!(rt; "refusals of reading: {score}")?;
     Ok(score)
 }
 
 // The packet is refused by 23, and the memory is as it was.
 fn too_wide(packet: Packet<'_>) -> bool {
     let mut memory = [0xa5; 67];
-    match packet.build(&mut memory) {
-        Ok(_) => false,
-        Err(refusal) => refusal.number() == 23 && memory == [0xa5; 67],
-    }
+    let answer = packet.build(&mut memory);
+    answer.is_err_and(|refusal| u8::from(refusal) == 23) && memory == [0xa5; 67]
 }
 
 fn token_too_wide(address: u8, endpoint: u8) -> bool {
@@ -43,11 +38,11 @@ fn body_too_wide(body: &[u8]) -> bool {
 }
 
 pub fn building(rt: &HostRuntime) -> anyhow::Result<Score> {
-    let mut score = Score::none();
+    let mut score = Score::default();
     score.count(token_too_wide(128, 0));
     score.count(token_too_wide(255, 15));
     score.count(token_too_wide(0, 16));
     score.count(body_too_wide(&[0; 65]));
-    score.show(rt, "refusals of building")?;
+    println!(rt; "refusals of building: {score}")?;
     Ok(score)
 }
