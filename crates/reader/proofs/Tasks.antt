@@ -63,7 +63,7 @@ agree_block t h size (Err e) o = tt
 module _ (t : Toggles) (h : Halts) (d : Disk) (tag due left sector : ℕ) (come body : List ℕ) (k : Task) (u : UnderWay tag due left k) (some : length come ≤ k.moved) where
   agree_answered : (a : Result Verdict StoreRefusal) → length body ≡ min 64 left → length (come ++ body) ≡ 512
       → Agree (sector_answered t h tag (due - length body) (left - length body) sector (come ++ body) a).0.phase
-        (Some (with_moved (counted (sector_answered t h tag (due - length body) (left - length body) sector (come ++ body) a).1 (k.moved + length body)) k))
+      (Some (with_moved (counted (sector_answered t h tag (due - length body) (left - length body) sector (come ++ body) a).1 (k.moved + length body)) k))
   agree_answered (Ok Taken) full whole = grind (arith, length-append)
   agree_answered (Ok Locked) full whole = grind (arith, length-append)
   agree_answered (Ok Full) full whole = grind (arith, length-append)
@@ -96,7 +96,7 @@ agree_wanted (status block false) s d body o is agree = absurd (true≢false (sy
 
 agree_bulk_data : (turn halt : Bool) (p : Phase) (s : State) (d : Disk) (body : List ℕ) (o : Option Task) → s.bulk.phase ≡ p → Agree p o
     → Agree (cond turn (cond halt (unwritten (expecting Nothing s, stalls)) (wanted p s d body)) (unwritten (expecting Nothing s, acks))).state.bulk.phase
-      (cond (turn && (not halt && wants p)) (after_data p d.size body (cond turn (cond halt (unwritten (expecting Nothing s, stalls)) (wanted p s d body)) (unwritten (expecting Nothing s, acks))).written o) o)
+    (cond (turn && (not halt && wants p)) (after_data p d.size body (cond turn (cond halt (unwritten (expecting Nothing s, stalls)) (wanted p s d body)) (unwritten (expecting Nothing s, acks))).written o) o)
 agree_bulk_data turn halt p s d body o is agree = grind (arith, agree_wanted p s d body o)
 
 agree_hears_data : (x : Expectation) (s : State) (d : Disk) (k : DataKind) (body : List ℕ) (o : Option Task) → Agree s.bulk.phase o

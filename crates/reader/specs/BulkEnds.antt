@@ -1,5 +1,5 @@
 -- The bulk endpoints: 1 IN and 2 OUT.
-use Rattle.std.specs.Prelude.{ℕ, Bool, true, false, cond, List, None}
+use Rattle.std.specs.Prelude.{◌≡◌, ℕ, Bool, true, false, cond, List, None}
 use Rattle.packet.specs.declared.kind.DataKind.{DataKind}
 use Rattle.packet.specs.Parts.{data_packet}
 use Rattle.reader.specs.declared.state.Expectation.TheVariants.{Nothing, BulkAck}
@@ -7,7 +7,7 @@ use Rattle.reader.specs.declared.state.Halts.{Halts}
 use Rattle.reader.specs.declared.state.Halts.TheVariants.{Each, Invalid}
 use Rattle.reader.specs.Answers.{Answer, quiet, says, acks, naks, stalls}
 use Rattle.reader.specs.Control.{expecting, with_bulk}
-use Rattle.reader.specs.Disk.{Disk, Written}
+use Rattle.reader.specs.Disk.{Disk, Written, Left}
 use Rattle.reader.specs.Stages.{take_block, take_data, waiting, data_acknowledged}
 use Rattle.reader.specs.State.{Bulk, State, Phase, command, data_in, data_out, status}
 use Rattle.transport.specs.Statuses.{status_bytes}
@@ -21,6 +21,12 @@ pub record Outcome : Type 0 where
   pub state : State
   pub answer : Answer
   pub written : Written
+
+-- an arrival came to it: the state after it, its answer, and the disk before and after it
+pub record ComesTo (o : Outcome) (after : State) (answered : Answer) (old new : Disk) : Type 0 where
+  pub state : after ≡ o.state
+  pub answer : answered ≡ o.answer
+  pub disk : Left o.written old new
 
 abbrev pub unwritten : State × Answer → Outcome
 unwritten p = record { state = p.0; answer = p.1; written = None }

@@ -2,7 +2,7 @@
 ghost use Rattle.std.specs.Prelude.{◌≡◌, ◌≤◌};
 ghost use Rattle.packet.specs.Parts.{data_packet};
 ghost use Rattle.reader.specs.Answers.{answer_seen};
-ghost use Rattle.reader.specs.BulkEnds.{halted, wanted, bulk_data, offered, bulk_in, bulk_acknowledged, bulk_ack};
+ghost use Rattle.reader.specs.BulkEnds.{ComesTo, halted, wanted, bulk_data, offered, bulk_in, bulk_acknowledged, bulk_ack};
 ghost use Rattle.reader.specs.Control.{with_bulk};
 ghost use Rattle.reader.specs.Disk.{disk_of, Left};
 ghost use Rattle.reader.specs.State.{seen};
@@ -30,8 +30,7 @@ impl Halts {
 impl Core {
     // The acknowledgement of what was sent.
     pub(crate) fn hear_bulk_ack(&mut self) -> Answer
-        ensures state { seen self.new ≡ (bulk_ack (seen self.old)).0 }
-        ensures answer { answer_seen result ≡ (bulk_ack (seen self.old)).1 }
+        ensures { (seen self.new, answer_seen result) ≡ bulk_ack (seen self.old) }
     {
         self.expects = Expectation::Nothing;
         match self.phase {
@@ -50,8 +49,7 @@ impl Core {
 
     // An IN for the endpoint that sends.
     pub(crate) fn hear_bulk_in<S: Store>(&mut self, store: &S) -> Answer
-        ensures state { seen self.new ≡ (bulk_in (seen self.old) (disk_of S.Store store.now)).0 }
-        ensures answer { answer_seen result ≡ (bulk_in (seen self.old) (disk_of S.Store store.now)).1 }
+        ensures { (seen self.new, answer_seen result) ≡ bulk_in (seen self.old) (disk_of S.Store store.now) }
     {
         self.expects = Expectation::Nothing;
         if self.halts.is_halted(DataDirection::In) {
@@ -75,9 +73,7 @@ impl Core {
     // Expected data, not halted: taken as a block or as data, or not wanted. Where a status that was sent has had no ACK,
     // they count as that ACK.
     fn take_wanted<S: Store>(&mut self, store: &mut S, body: &[u8]) -> Answer
-        ensures state { seen self.new ≡ (wanted (seen self.old).bulk.phase (seen self.old) (disk_of S.Store store.old) body.now).state }
-        ensures answer { answer_seen result ≡ (wanted (seen self.old).bulk.phase (seen self.old) (disk_of S.Store store.old) body.now).answer }
-        ensures disk { Left (wanted (seen self.old).bulk.phase (seen self.old) (disk_of S.Store store.old) body.now).written (disk_of S.Store store.old) (disk_of S.Store store.new) }
+        ensures { ComesTo (wanted (seen self.old).bulk.phase (seen self.old) (disk_of S.Store store.old) body.now) (seen self.new) (answer_seen result) (disk_of S.Store store.old) (disk_of S.Store store.new) }
     {
         self.expects = Expectation::Nothing;
         match self.phase {
@@ -110,9 +106,7 @@ impl Core {
         kind: DataKind,
         body: &[u8],
     ) -> Answer
-        ensures state { seen self.new ≡ (bulk_data (seen self.old) (disk_of S.Store store.old) kind body.now).state }
-        ensures answer { answer_seen result ≡ (bulk_data (seen self.old) (disk_of S.Store store.old) kind body.now).answer }
-        ensures disk { Left (bulk_data (seen self.old) (disk_of S.Store store.old) kind body.now).written (disk_of S.Store store.old) (disk_of S.Store store.new) }
+        ensures { ComesTo (bulk_data (seen self.old) (disk_of S.Store store.old) kind body.now) (seen self.new) (answer_seen result) (disk_of S.Store store.old) (disk_of S.Store store.new) }
     {
         if kind != self.toggles.data_out {
             self.expects = Expectation::Nothing;

@@ -139,8 +139,7 @@ impl Core {
 impl Core {
     // An IN for the control endpoint.
     pub(crate) fn hear_control_in(&mut self) -> Answer
-        ensures state { seen self.new ≡ (control_in (seen self.old)).0 }
-        ensures answer { answer_seen result ≡ (control_in (seen self.old)).1 }
+        ensures { (seen self.new, answer_seen result) ≡ control_in (seen self.old) }
     {
         self.expects = Expectation::Nothing;
         match self.transfer {
@@ -161,8 +160,7 @@ impl Core {
 
     // The data after a SETUP.
     pub(crate) fn hear_setup_data(&mut self, kind: DataKind, body: &[u8]) -> Answer
-        ensures state { seen self.new ≡ (setup_data (seen self.old) kind body.now).0 }
-        ensures answer { answer_seen result ≡ (setup_data (seen self.old) kind body.now).1 }
+        ensures { (seen self.new, answer_seen result) ≡ setup_data (seen self.old) kind body.now }
     {
         self.expects = Expectation::Nothing;
         let DataKind::Data0 = kind else {
@@ -179,8 +177,7 @@ impl Core {
 
     // The data after an OUT for the control endpoint.
     pub(crate) fn hear_control_data(&mut self) -> Answer
-        ensures state { seen self.new ≡ (control_data (seen self.old)).0 }
-        ensures answer { answer_seen result ≡ (control_data (seen self.old)).1 }
+        ensures { (seen self.new, answer_seen result) ≡ control_data (seen self.old) }
     {
         self.expects = Expectation::Nothing;
         match self.transfer {
@@ -193,8 +190,7 @@ impl Core {
 
     // The acknowledgement of a status.
     pub(crate) fn hear_control_ack(&mut self) -> Answer
-        ensures state { seen self.new ≡ (control_ack (seen self.old)).0 }
-        ensures answer { answer_seen result ≡ (control_ack (seen self.old)).1 }
+        ensures { (seen self.new, answer_seen result) ≡ control_ack (seen self.old) }
     {
         self.expects = Expectation::Nothing;
         self.addresses = self.addresses.acknowledge();

@@ -3,6 +3,7 @@ ghost use Rattle.std.specs.Prelude.{◌≡◌, length};
 ghost use Rattle.packet.specs.Parts.{parts};
 ghost use Rattle.packet.specs.Reading.{reading};
 ghost use Rattle.reader.specs.Answers.{answer_seen, answer_bytes, answer_memory};
+ghost use Rattle.reader.specs.BulkEnds.{ComesTo};
 ghost use Rattle.reader.specs.Control.{with_control, with_addresses};
 ghost use Rattle.reader.specs.Disk.{disk_of, Left};
 ghost use Rattle.reader.specs.Hears.{token_taken, hears_token, hears_data, hears_handshake, hears_packet, hears};
@@ -12,6 +13,7 @@ ghost use Rattle.store.specs.Access.{read_answer, read_memory, write_answer, wri
 use super::answer::Answer;
 use super::state::{Core, Expectation};
 use packet::{DataKind, Handshake, Packet, TokenKind, read};
+use std::mem;
 use store::{Store, StoreRefusal, Verdict};
 
 #[derive(Drop)]
@@ -80,9 +82,7 @@ impl<S: Store> Reader<S> {
 
     // A token for an address that is heard.
     fn take_token(&mut self, kind: TokenKind, endpoint: u8) -> Answer
-        ensures state { seen self.new.core ≡ (token_taken kind endpoint (seen self.old.core) (disk_of S.Store self.old.store)).state }
-        ensures answer { answer_seen result ≡ (token_taken kind endpoint (seen self.old.core) (disk_of S.Store self.old.store)).answer }
-        ensures store { self.new.store ≡ self.old.store }
+        ensures { ComesTo (token_taken kind endpoint (seen self.old.core) (disk_of S.Store self.old.store)) (seen self.new.core) (answer_seen result) (disk_of S.Store self.old.store) (disk_of S.Store self.new.store) }
     {
         self.core.expects = match (kind, endpoint) {
             (TokenKind::In, 0) => return self.core.hear_control_in(),
@@ -98,9 +98,7 @@ impl<S: Store> Reader<S> {
     }
 
     fn hear_token(&mut self, kind: TokenKind, address: u8, endpoint: u8) -> Answer
-        ensures state { seen self.new.core ≡ (hears_token (seen self.old.core) (disk_of S.Store self.old.store) kind address endpoint).state }
-        ensures answer { answer_seen result ≡ (hears_token (seen self.old.core) (disk_of S.Store self.old.store) kind address endpoint).answer }
-        ensures store { self.new.store ≡ self.old.store }
+        ensures { ComesTo (hears_token (seen self.old.core) (disk_of S.Store self.old.store) kind address endpoint) (seen self.new.core) (answer_seen result) (disk_of S.Store self.old.store) (disk_of S.Store self.new.store) }
     {
         if !self.core.addresses.hear(address) {
             self.core.expects = Expectation::Nothing;
@@ -111,9 +109,7 @@ impl<S: Store> Reader<S> {
     }
 
     fn hear_data(&mut self, kind: DataKind, body: &[u8]) -> Answer
-        ensures state { seen self.new.core ≡ (hears_data self.old.core.expects (seen self.old.core) (disk_of S.Store self.old.store) kind body.now).state }
-        ensures answer { answer_seen result ≡ (hears_data self.old.core.expects (seen self.old.core) (disk_of S.Store self.old.store) kind body.now).answer }
-        ensures disk { Left (hears_data self.old.core.expects (seen self.old.core) (disk_of S.Store self.old.store) kind body.now).written (disk_of S.Store self.old.store) (disk_of S.Store self.new.store) }
+        ensures { ComesTo (hears_data self.old.core.expects (seen self.old.core) (disk_of S.Store self.old.store) kind body.now) (seen self.new.core) (answer_seen result) (disk_of S.Store self.old.store) (disk_of S.Store self.new.store) }
     {
         match self.core.expects {
             Expectation::SetupData => self.core.hear_setup_data(kind, body),
@@ -127,13 +123,9 @@ impl<S: Store> Reader<S> {
     }
 
     fn hear_handshake(&mut self, handshake: Handshake) -> Answer
-        ensures state { seen self.new.core ≡ (hears_handshake (seen self.old.core) handshake).state }
-        ensures answer { answer_seen result ≡ (hears_handshake (seen self.old.core) handshake).answer }
-        ensures store { self.new.store ≡ self.old.store }
+        ensures { ComesTo (hears_handshake (seen self.old.core) handshake) (seen self.new.core) (answer_seen result) (disk_of S.Store self.old.store) (disk_of S.Store self.new.store) }
     {
-        let expects = self.core.expects;
-        self.core.expects = Expectation::Nothing;
-        match (handshake, expects) {
+        match (handshake, mem::take(&mut self.core.expects)) {
             (Handshake::Ack, Expectation::ControlAck) => self.core.hear_control_ack(),
             (Handshake::Ack, Expectation::BulkAck) => self.core.hear_bulk_ack(),
             _ => Answer::Nothing,
@@ -141,9 +133,7 @@ impl<S: Store> Reader<S> {
     }
 
     fn hear_packet(&mut self, packet: Packet<'_>) -> Answer
-        ensures state { seen self.new.core ≡ (hears_packet (seen self.old.core) (disk_of S.Store self.old.store) (parts packet.entry)).state }
-        ensures answer { answer_seen result ≡ (hears_packet (seen self.old.core) (disk_of S.Store self.old.store) (parts packet.entry)).answer }
-        ensures disk { Left (hears_packet (seen self.old.core) (disk_of S.Store self.old.store) (parts packet.entry)).written (disk_of S.Store self.old.store) (disk_of S.Store self.new.store) }
+        ensures { ComesTo (hears_packet (seen self.old.core) (disk_of S.Store self.old.store) (parts packet.entry)) (seen self.new.core) (answer_seen result) (disk_of S.Store self.old.store) (disk_of S.Store self.new.store) }
     {
         match packet {
             Packet::Token {

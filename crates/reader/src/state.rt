@@ -32,8 +32,9 @@ pub enum Transfer {
 }
 
 // What must be heard next for it to count; anything else ends the expectation.
-#[derive(Clone, Copy)]
+#[derive(Clone, Copy, Default)]
 pub enum Expectation {
+    #[default]
     Nothing,
     SetupData,
     ControlData,
