@@ -1,4 +1,3 @@
 pub mod Taking
-pub mod Digits
 pub mod ReadBack
 pub mod WordsRead

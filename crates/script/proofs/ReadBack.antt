@@ -1,5 +1,5 @@
 -- Bytes that are shown are read back as they were.
-use Rattle.std.proofs.Common.{◌≡◌, ℕ, ◌+◌, ◌*◌, ◌/◌, ◌%◌, ◌<◌, false, List, [], ◌∷◌, Ok, refl, ap, ◌∙◌, arith}
+use Rattle.std.proofs.Common.{◌≡◌, ℕ, ◌+◌, ◌*◌, ◌/◌, ◌%◌, ◌<◌, false, List, [], ◌∷◌, Some, Ok, refl, ap, ◌∙◌, arith}
 use Rattle.std.proofs.lemmas.Bool.Decides.{nat_tests}
 use Rattle.script.specs.Arguments.{put_before}
 use Rattle.script.specs.Hex.{hex_digit, hex_value, hex_byte, after_blanks, hex_bytes, two_digits, byte_read, bytes_read, ShownBytesAreReadBack}
@@ -8,7 +8,7 @@ use Rattle.script.specs.Text.{blank, words}
 digit_solid : (n : ℕ) → n < 16 → blank (hex_digit n) ≡ false
 digit_solid n small = grind (arith, nat_tests)
 
-digit_value : (n : ℕ) → n < 16 → hex_value (hex_digit n) ≡ n
+digit_value : (n : ℕ) → n < 16 → hex_value (hex_digit n) ≡ Some n
 digit_value n small = grind (arith, nat_tests)
 
 -- two digits, and then a blank or the end, are a word
@@ -27,7 +27,7 @@ byte_back b small =
     let high : b / 16 < 16 = omega arith in
     let low : b % 16 < 16 = omega arith in
     let whole : b / 16 * 16 + b % 16 ≡ b = omega arith in
-    ap (λ n. two_digits n (hex_value (hex_digit (b % 16)))) (digit_value (b / 16) high) ∙ ap (two_digits (b / 16)) (digit_value (b % 16) low) ∙ grind (arith, nat_tests)
+    ap (λ n. two_digits n (hex_value (hex_digit (b % 16)))) (digit_value (b / 16) high) ∙ ap (two_digits (Some (b / 16))) (digit_value (b % 16) low) ∙ ap Ok whole
 
 -- the first of the bytes, read before what follows it
 first_back : (b : ℕ) (bs : List ℕ) → b < 256 → bytes_read (words (hex_bytes (b ∷ bs))) ≡ put_before (Ok b) (bytes_read (words (after_blanks bs)))

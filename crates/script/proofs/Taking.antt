@@ -1,23 +1,8 @@
--- A word and a line taken from the front: the lemmas on `words` and `lines` that the cursors rest on.
-use Rattle.std.proofs.Common.{◌≡◌, ℕ, suc, ◌+◌, ◌<◌, ◌≤◌, min, Bool, true, false, cond, List, [], ◌∷◌, length, get_or, take, drop, Some, None, Option, sym, refl, ap, ◌∙◌, subst, one-add, arith}
+-- A word and a line taken from the front: the lemmas on `words` and `lines` that the iterators rest on.
+use Rattle.std.proofs.Common.{◌≡◌, ℕ, suc, ◌+◌, ◌-◌, min, ◌<◌, Bool, true, false, cond, List, [], ◌∷◌, length, take, drop, sym, refl, ap, ◌∙◌, subst, one-add, arith}
 use Rattle.std.specs.List.{prefix_len}
-use Rattle.std.proofs.lemmas.List.Sums.{prefix_len-drop_yes, prefix_len-drop_no, prefix_len-drop_all}
-use Rattle.script.specs.Text.{blank, solid, onto_first, words, inner, lines, first_of, rest_of}
-
-module _ (p : ℕ → Bool) (xs : List ℕ) (i : ℕ) (sofar : i + prefix_len p (drop i xs) ≡ prefix_len p xs) where
-  pub leading_again : i < length xs → p (get_or xs i 0) ≡ true → (i + 1 ≤ length xs) × (i + 1 + prefix_len p (drop (i + 1) xs) ≡ prefix_len p xs)
-  leading_again lt is = (omega arith, omega (arith, prefix_len-drop_yes p xs i 0 lt is))
-
-  pub leading_stops : i < length xs → p (get_or xs i 0) ≡ false → i ≡ prefix_len p xs
-  leading_stops lt is = omega (arith, prefix_len-drop_no p xs i 0 lt is)
-
-  pub leading_ends : length xs ≤ i → i ≡ prefix_len p xs
-  leading_ends le = omega (arith, prefix_len-drop_all p xs i le)
-
--- a piece and what is left after it are the first and the rest of the pieces
-pub record Takes (all : List (List ℕ)) (piece : Option (List ℕ)) (left : List (List ℕ)) : Type 0 where
-  pub first : piece ≡ first_of all
-  pub rest : left ≡ rest_of all
+use Rattle.std.proofs.lemmas.List.{take_rest}
+use Rattle.script.specs.Text.{blank, solid, onto_first, words, inner, lines}
 
 -- blanks in front add no word
 blanks_pass : (bs : List ℕ) → words (drop (prefix_len blank bs) bs) ≡ words bs
@@ -77,18 +62,17 @@ module _ (bs line word rest : List ℕ) (m n : ℕ) (led : m ≡ prefix_len blan
   whole_rest : rest ≡ drop (prefix_len solid line) line
   whole_rest = back ∙ ap (λ k. drop k line) long
 
-  pub no_word : length word ≡ 0 → Takes (words bs) None (words rest)
+  pub no_word : length word ≡ 0 → (words bs ≡ []) × (words rest ≡ [])
   unfolding words
   no_word none =
       let gone : line ≡ [] = none_taken line no_blank (sym (ap length whole_word) ∙ none) in
-      let nothing : words bs ≡ [] = sym same_words ∙ ap words gone in
       let left : rest ≡ [] = whole_rest ∙ ap (λ l. drop (prefix_len solid l) l) gone in
-      record { first = sym (ap first_of nothing); rest = ap words left ∙ sym (ap rest_of nothing) }
+      (sym same_words ∙ ap words gone, ap words left)
 
-  pub a_word : (length word ≡ 0 → ⊥) → Takes (words bs) (Some word) (words rest)
+  pub a_word : (length word ≡ 0 → ⊥) → words bs ≡ word ∷ words rest
   a_word some =
       let cut : words bs ≡ take (prefix_len solid line) line ∷ words (drop (prefix_len solid line) line) = sym same_words ∙ some_taken line no_blank (λ none. some (ap length whole_word ∙ none)) in
-      record { first = ap Some whole_word ∙ sym (ap first_of cut); rest = ap words whole_rest ∙ sym (ap rest_of cut) }
+      cut ∙ ap (λ w. w ∷ words (drop (prefix_len solid line) line)) (sym whole_word) ∙ ap (λ r. word ∷ words r) (sym whole_rest)
 
 line_front : (b : ℕ) (bs : List ℕ) → lines (b ∷ bs) ≡ take (prefix_len inner (b ∷ bs)) (b ∷ bs) ∷ lines (drop 1 (drop (prefix_len inner (b ∷ bs)) (b ∷ bs)))
 unfolding lines
@@ -113,17 +97,25 @@ module _ (bs line rest after : List ℕ) (n : ℕ) (long : n ≡ prefix_len inne
       at [] some = absurd (some refl)
       at (b ∷ l) some = line_front b l
 
-  pub a_line : (length bs ≡ 0 → ⊥) → Takes (lines bs) (Some line) (lines after)
-  a_line some = record {
-    first = ap Some (front ∙ ap (λ k. take k bs) long) ∙ sym (ap first_of (cut_line some));
-    rest = ap lines (next ∙ ap (λ (l : List ℕ). drop 1 l) (back ∙ ap (λ k. drop k bs) long)) ∙ sym (ap rest_of (cut_line some));
-  }
+  pub a_line : (length bs ≡ 0 → ⊥) → lines bs ≡ line ∷ lines after
+  a_line some =
+      let whole_line : line ≡ take (prefix_len inner bs) bs = front ∙ ap (λ k. take k bs) long in
+      let left : after ≡ drop 1 (drop (prefix_len inner bs) bs) = next ∙ ap (λ (l : List ℕ). drop 1 l) (back ∙ ap (λ k. drop k bs) long) in
+      cut_line some ∙ ap (λ l. l ∷ lines (drop 1 (drop (prefix_len inner bs) bs))) (sym whole_line) ∙ ap (λ l. line ∷ lines l) (sym left)
 
-pub past_end : (l : List ℕ) → drop (min (length l) 1) l ≡ drop 1 l
-past_end [] = refl
-past_end (b ∷ l) = let one : min (suc (length l)) 1 ≡ 1 = omega arith in rw one
-
-pub no_line : (bs : List ℕ) → length bs ≡ 0 → Takes (lines bs) None (lines bs)
+pub no_line : (bs : List ℕ) → length bs ≡ 0 → lines bs ≡ []
 unfolding lines
-no_line [] none = record { first = refl; rest = refl }
+no_line [] none = refl
 no_line (b ∷ bs) none = absurd (omega arith)
+
+-- an iterator whose state shows the list of what is left makes progress with each item
+pub nearer : (before left : List (List ℕ)) (w : List ℕ) → before ≡ w ∷ left → length left < length before
+nearer before left w is = let long : length before ≡ 1 + length left = ap length is ∙ omega arith in omega arith
+
+-- what follows the end of a line, as a part of a slice is written
+pub past_end : (l : List ℕ) → take (length l - min (length l) 1) (drop (min (length l) 1) l) ≡ drop 1 l
+past_end l = take_rest l (min (length l) 1) ∙ past l
+  where
+    past : (l : List ℕ) → drop (min (length l) 1) l ≡ drop 1 l
+    past [] = refl
+    past (b ∷ l) = let one : min (suc (length l)) 1 ≡ 1 = omega arith in rw one

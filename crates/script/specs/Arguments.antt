@@ -35,17 +35,17 @@ abbrev pub some_of : {X : Type 0} → Result X Misread → Result (Option X) Mis
 some_of (Ok x) = Ok (Some x)
 some_of (Err why) = Err why
 
-abbrev pub put_before : Result ℕ Misread → Result (List ℕ) Misread → Result (List ℕ) Misread
+abbrev pub put_before : {X : Type 0} → Result X Misread → Result (List X) Misread → Result (List X) Misread
 put_before (Ok b) (Ok bs) = Ok (b ∷ bs)
 put_before (Ok b) (Err why) = Err why
 put_before (Err why) bs = Err why
 
 -- all the words, each read so
-abbrev pub all_read : (List ℕ → Result ℕ Misread) → List (List ℕ) → Result (List ℕ) Misread
+abbrev pub all_read : {X : Type 0} → (List ℕ → Result X Misread) → List (List ℕ) → Result (List X) Misread
 all_read f [] = Ok []
 all_read f (w ∷ ws) = put_before (f w) (all_read f ws)
 
--- numbers as the code answers them
-abbrev pub numbers_seen : Result (Vec ℕ Global) Misread → Result (List ℕ) Misread
-numbers_seen (Ok v) = Ok (vec_items v)
-numbers_seen (Err why) = Err why
+-- a list as the code answers it
+abbrev pub list_seen : {X : Type 0} → Result (Vec X Global) Misread → Result (List X) Misread
+list_seen (Ok v) = Ok (vec_items v)
+list_seen (Err why) = Err why

@@ -1,5 +1,5 @@
 -- Bytes as text, and words as bytes.
-use Rattle.std.specs.Prelude.{◌≡◌, ℕ, ◌+◌, ◌-◌, ◌*◌, ◌/◌, ◌%◌, ◌<◌, cond, ◌&&◌, List, [], ◌∷◌, ◌++◌, Ok, Err, codes, Result, nat_le, nat_lt}
+use Rattle.std.specs.Prelude.{◌≡◌, ℕ, ◌+◌, ◌-◌, ◌*◌, ◌/◌, ◌%◌, ◌<◌, cond, ◌&&◌, List, [], ◌∷◌, ◌++◌, Some, None, Ok, Err, codes, Option, Result, nat_le, nat_lt}
 use Rattle.std.specs.List.{AllByRecursion}
 use Rattle.script.specs.declared.misread.Misread.{Misread}
 use Rattle.script.specs.declared.misread.Misread.TheVariants.{NotAByte}
@@ -22,13 +22,15 @@ abbrev pub hex_bytes : List ℕ → List ℕ
 hex_bytes [] = codes "nothing"
 hex_bytes (b ∷ bs) = hex_byte b ++ after_blanks bs
 
--- what a digit stands for, or 16 if it is none
-abbrev pub hex_value : ℕ → ℕ
-hex_value c = cond (nat_le 48 c && nat_le c 57) (c - 48) (cond (nat_le 97 c && nat_le c 102) (c - 87) 16)
+-- what a digit stands for
+abbrev pub hex_value : ℕ → Option ℕ
+hex_value c = cond (nat_le 48 c && nat_le c 57) (Some (c - 48)) (cond (nat_le 97 c && nat_le c 102) (Some (c - 87)) None)
 
 -- the byte that two digits write
-abbrev pub two_digits : ℕ → ℕ → Result ℕ Misread
-two_digits high low = cond (nat_lt high 16 && nat_lt low 16) (Ok (high * 16 + low)) (Err NotAByte)
+abbrev pub two_digits : Option ℕ → Option ℕ → Result ℕ Misread
+two_digits (Some high) (Some low) = Ok (high * 16 + low)
+two_digits (Some high) None = Err NotAByte
+two_digits None low = Err NotAByte
 
 abbrev pub byte_read : List ℕ → Result ℕ Misread
 byte_read (high ∷ low ∷ []) = two_digits (hex_value high) (hex_value low)

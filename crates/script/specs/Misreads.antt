@@ -1,6 +1,8 @@
 -- Why a line is not understood, in words.
-use Rattle.std.specs.Prelude.{ℕ, List, codes}
+use Rattle.std.specs.Prelude.{ℕ, List, Ok, Err, codes, Result}
 use Rattle.script.specs.declared.misread.Misread.{Misread}
+use Rattle.script.specs.declared.misread.ReadError.{ReadError}
+use Rattle.script.specs.declared.misread.ReadError.TheVariants.{Misread as NotUnderstood, Memory}
 use Rattle.script.specs.declared.misread.Misread.TheVariants.{UnknownStep, UnknownKind, NotACable, NotAPort, NotADirection, NotAByte, NotANumber, MissingWord, ExtraWord}
 
 abbrev pub misread_text : Misread → List ℕ
@@ -13,3 +15,9 @@ misread_text NotAByte = codes "a byte is two hexadecimal digits in lower case"
 misread_text NotANumber = codes "a number is decimal digits"
 misread_text MissingWord = codes "a word is missing"
 misread_text ExtraWord = codes "a word too many"
+
+-- this holds of what is read or not understood; want of memory claims nothing
+abbrev pub IfRead : {X : Type 0} → Result X ReadError → (Result X Misread → Type 0) → Type 0
+IfRead (Ok x) P = P (Ok x)
+IfRead (Err (NotUnderstood why)) P = P (Err why)
+IfRead (Err (Memory error)) P = Unit {0}

@@ -1,5 +1,5 @@
 -- The steps of a script as plain values, and which of them a line names.
-use Rattle.std.specs.Prelude.{ℕ, Bool, true, false, cond, List, [], ◌∷◌, None, Ok, Err, vec_items, codes, Option, Result, ◌==◌}
+use Rattle.std.specs.Prelude.{ℕ, Bool, true, false, cond, List, [], ◌∷◌, Some, None, Ok, Err, vec_items, codes, Option, Result, ◌==◌}
 use Rattle.packet.specs.Parts.{Parts, token, data_packet, handshake}
 use Rattle.wire.specs.declared.hub.Port.{Port as Ports}
 use Rattle.wire.specs.declared.interface.Direction.{Direction}
@@ -8,8 +8,6 @@ use Rattle.script.specs.declared.misread.Misread.{Misread}
 use Rattle.script.specs.declared.misread.Misread.TheVariants.{UnknownStep}
 use Rattle.script.specs.declared.step.Step.{Step as Steps}
 use Rattle.script.specs.declared.step.Step.TheVariants.{Packet, BuildToken, BuildData, BuildHandshake, Cable, Port, Carry, Clear, Memory, Lock, Sector, Put}
-use Rattle.script.specs.declared.step.Line.{Line as Lines}
-use Rattle.script.specs.declared.step.Line.TheVariants.{PassedOver, Step, NotUnderstood}
 use Rattle.script.specs.declared.step.Verb.{Verb}
 use Rattle.script.specs.declared.step.Verb.TheVariants.{Packet as PacketVerb, Build as BuildVerb, Cable as CableVerb, Port as PortVerb, Carry as CarryVerb, Clear as ClearVerb, Memory as MemoryVerb, Lock as LockVerb, Sector as SectorVerb, Put as PutVerb}
 use Rattle.script.specs.declared.build_steps.Sort.{Sort}
@@ -60,10 +58,11 @@ abbrev pub step_seen : Result Steps Misread → Result Action Misread
 step_seen (Ok s) = Ok (action s)
 step_seen (Err why) = Err why
 
-abbrev pub line_seen : Lines → Saying
-line_seen PassedOver = nothing_said
-line_seen (Step s) = says (action s)
-line_seen (NotUnderstood why) = not_understood why
+-- what a line says, as the code answers it
+abbrev pub line_seen : Result (Option Steps) Misread → Saying
+line_seen (Ok None) = nothing_said
+line_seen (Ok (Some s)) = says (action s)
+line_seen (Err why) = not_understood why
 
 abbrev pub verb_read : List ℕ → Result Verb Misread
 verb_read w =

@@ -1,12 +1,15 @@
 // The steps that build a packet, and the one that reads one.
-ghost use Rattle.std.specs.Prelude.{◌≡◌, IfOk};
-ghost use Rattle.script.specs.Arguments.{argument};
+ghost use Rattle.std.specs.Prelude.{◌≡◌};
+ghost use Rattle.script.specs.Misreads.{IfRead};
 ghost use Rattle.script.specs.Steps.{sort_read, step_seen, token_step, data_step, handshake_step, build_step, packet_step};
-ghost use Rattle.script.specs.Text.{words_left, rest_of};
+ghost use Rattle.script.specs.Text.{words_left};
 
-use super::text::is_named;
-use super::{Misread, Step, Words, argument};
-use std::alloc::{AllocError, Global};
+use super::argument::Argument;
+use super::hex::HexByte;
+use super::name::named;
+use super::{Misread, ReadError, Step, Words};
+use packet::{DataKind, Handshake, TokenKind};
+use std::alloc::Global;
 
 // What sort of packet is to be built.
 #[derive(Clone, Copy)]
@@ -16,38 +19,28 @@ enum Sort {
     Handshake,
 }
 
-fn read_sort(word: &[u8]) -> Result<Sort, Misread>
-    ensures { result ≡ sort_read word.now }
-{
-    if is_named(word, b"token") {
-        return Ok(Sort::Token);
-    }
-    if is_named(word, b"data") {
-        return Ok(Sort::Data);
-    }
-    if is_named(word, b"handshake") {
-        return Ok(Sort::Handshake);
-    }
-    Err(Misread::UnknownStep)
-}
+impl Argument for Sort {
+    type Value = Sort;
 
-fn first_sort(words: &mut Words<'_>) -> Result<Sort, Misread>
-    ensures value { result ≡ argument sort_read (words_left words.old) }
-    ensures rest { words_left words.new ≡ rest_of (words_left words.old) }
-{
-    match words.next() {
-        Some(word) => read_sort(word),
-        None => Err(Misread::MissingWord),
+    ghost reading = { sort_read };
+
+    fn read(word: &[u8]) -> Result<Sort, Misread> {
+        let names = [
+            ("token", Sort::Token),
+            ("data", Sort::Data),
+            ("handshake", Sort::Handshake),
+        ];
+        named(word, &names, Misread::UnknownStep)
     }
 }
 
 fn build_token(mut words: Words<'_>) -> Result<Step, Misread>
     ensures { step_seen result ≡ token_step (words_left words.entry) }
 {
-    let kind = argument::token_kind(&mut words)?;
-    let address = argument::small_number(&mut words)?;
-    let endpoint = argument::small_number(&mut words)?;
-    argument::end(words)?;
+    let kind = words.argument::<TokenKind>()?;
+    let address = words.argument::<u8>()?;
+    let endpoint = words.argument::<u8>()?;
+    words.end()?;
     Ok(Step::BuildToken {
         kind,
         address,
@@ -58,43 +51,32 @@ fn build_token(mut words: Words<'_>) -> Result<Step, Misread>
 fn build_handshake(mut words: Words<'_>) -> Result<Step, Misread>
     ensures { step_seen result ≡ handshake_step (words_left words.entry) }
 {
-    let handshake = argument::handshake(&mut words)?;
-    argument::end(words)?;
+    let handshake = words.argument::<Handshake>()?;
+    words.end()?;
     Ok(Step::BuildHandshake(handshake))
 }
 
-fn build_data(heap: Global, mut words: Words<'_>) -> Result<Result<Step, Misread>, AllocError>
-    ensures { IfOk result (λ s. step_seen s ≡ data_step (words_left words.entry)) }
+fn build_data(heap: Global, mut words: Words<'_>) -> Result<Step, ReadError>
+    ensures { IfRead result (λ s. step_seen s ≡ data_step (words_left words.entry)) }
 {
-    let kind = match argument::data_kind(&mut words) {
-        Ok(kind) => kind,
-        Err(why) => return Ok(Err(why)),
-    };
-    match argument::bytes(heap, words)? {
-        Ok(body) => Ok(Ok(Step::BuildData { kind, body })),
-        Err(why) => Ok(Err(why)),
+    let kind = words.argument::<DataKind>()?;
+    let body = words.read_all::<HexByte>(heap)?;
+    Ok(Step::BuildData { kind, body })
+}
+
+pub(crate) fn build(heap: Global, mut words: Words<'_>) -> Result<Step, ReadError>
+    ensures { IfRead result (λ s. step_seen s ≡ build_step (words_left words.entry)) }
+{
+    match words.argument::<Sort>()? {
+        Sort::Token => Ok(build_token(words)?),
+        Sort::Data => build_data(heap, words),
+        Sort::Handshake => Ok(build_handshake(words)?),
     }
 }
 
-pub(crate) fn build(heap: Global, mut words: Words<'_>) -> Result<Result<Step, Misread>, AllocError>
-    ensures { IfOk result (λ s. step_seen s ≡ build_step (words_left words.entry)) }
+pub(crate) fn read_packet(heap: Global, words: Words<'_>) -> Result<Step, ReadError>
+    ensures { IfRead result (λ s. step_seen s ≡ packet_step (words_left words.entry)) }
 {
-    match first_sort(&mut words) {
-        Ok(Sort::Token) => Ok(build_token(words)),
-        Ok(Sort::Data) => build_data(heap, words),
-        Ok(Sort::Handshake) => Ok(build_handshake(words)),
-        Err(why) => Ok(Err(why)),
-    }
-}
-
-pub(crate) fn read_packet(
-    heap: Global,
-    words: Words<'_>,
-) -> Result<Result<Step, Misread>, AllocError>
-    ensures { IfOk result (λ s. step_seen s ≡ packet_step (words_left words.entry)) }
-{
-    match argument::bytes(heap, words)? {
-        Ok(bytes) => Ok(Ok(Step::Packet(bytes))),
-        Err(why) => Ok(Err(why)),
-    }
+    let bytes = words.read_all::<HexByte>(heap)?;
+    Ok(Step::Packet(bytes))
 }

@@ -1,42 +1,29 @@
 // Bytes as text: two hexadecimal digits each, in lower case, with one blank between.
-ghost use Rattle.std.specs.Prelude.{◌≡◌, ◌<◌, ◌++◌, IfOk, string_bytes, OnOk};
-ghost use Rattle.script.specs.Hex.{hex_digit, hex_value, hex_byte, after_blanks, hex_bytes, byte_read, ShownBytesAreReadBack};
+ghost use Rattle.std.specs.Prelude.{◌≡◌, ◌++◌, IfOk, string_bytes, OnOk};
+ghost use Rattle.script.specs.Hex.{hex_value, hex_byte, after_blanks, hex_bytes, byte_read, ShownBytesAreReadBack};
 
 use super::Misread;
+use super::argument::Argument;
 use std::alloc::{AllocError, Global};
+use std::fmt::Write;
 
-fn hex_digit(value: u8) -> u8
-    requires { value < 16 }
-    ensures value { result ≡ hex_digit value }
-    ensures ascii { result < 128 }
-{
-    if value < 10 {
-        b'0' + value
-    } else {
-        b'a' - 10 + value
-    }
-}
-
-// What a digit stands for, or 16 if it is none.
-fn hex_value(digit: u8) -> u8
+// What a digit stands for.
+fn hex_value(digit: u8) -> Option<u8>
     ensures { result ≡ hex_value digit }
 {
-    if digit >= b'0' && digit <= b'9' {
-        digit - b'0'
-    } else if digit >= b'a' && digit <= b'f' {
-        digit - b'a' + 10
-    } else {
-        16
+    match digit {
+        b'0'..=b'9' => Some(digit - b'0'),
+        b'a'..=b'f' => Some(digit - b'a' + 10),
+        _ => None,
     }
 }
 
 // One byte more at the end of a text.
+#[tactic(auto, using(std::proofs::lemmas::Fmt::hex_byte))]
 pub fn push_byte(text: &mut String, byte: u8) -> Result<(), AllocError>
     ensures { OnOk result (string_bytes text.new ≡ string_bytes text.old ++ hex_byte byte) }
 {
-    text.push(char::from(hex_digit(byte / 16)))?;
-    text.push(char::from(hex_digit(byte % 16)))?;
-    Ok(())
+    write!(text, "{byte:02x}")
 }
 
 // Each byte after a blank.
@@ -70,12 +57,22 @@ pub fn read_byte(word: &[u8]) -> Result<u8, Misread>
     let [high, low] = word else {
         return Err(Misread::NotAByte);
     };
-    let high = hex_value(*high);
-    let low = hex_value(*low);
-    if high < 16 && low < 16 {
-        Ok(high * 16 + low)
-    } else {
-        Err(Misread::NotAByte)
+    match (hex_value(*high), hex_value(*low)) {
+        (Some(high), Some(low)) => Ok(high * 16 + low),
+        _ => Err(Misread::NotAByte),
+    }
+}
+
+// A byte of two digits, as an argument of a step.
+pub(crate) struct HexByte;
+
+impl Argument for HexByte {
+    type Value = u8;
+
+    ghost reading = { byte_read };
+
+    fn read(word: &[u8]) -> Result<u8, Misread> {
+        read_byte(word)
     }
 }
 

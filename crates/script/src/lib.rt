@@ -9,14 +9,14 @@ mod kind;
 mod link;
 mod link_steps;
 mod misread;
+mod name;
 mod number;
 mod step;
 mod text;
 
 pub use hex::{bytes_shown_are_read_back, push_byte, read_byte, show_bytes};
-pub use kind::{data_kind_name, handshake_name, token_kind_name};
 pub use link::Cable;
-pub use misread::Misread;
+pub use misread::{Misread, ReadError};
 pub use number::{MOST_BYTES, read_number};
-pub use step::{Line, Step, understand};
+pub use step::{Step, understand};
 pub use text::{Lines, Words};

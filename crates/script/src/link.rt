@@ -1,9 +1,11 @@
 // The parts of a link by their names in a script: its cables, its port, and which way bytes go.
-ghost use Rattle.std.specs.Prelude.{◌≡◌};
-ghost use Rattle.script.specs.Names.{cable_read, port_read, direction_read};
+ghost use Rattle.std.specs.Prelude.{Some};
+ghost use Rattle.script.specs.Names.{cable_name, cable_read, port_read, direction_read};
 
 use super::Misread;
-use super::text::is_named;
+use super::argument::Argument;
+use super::name::named;
+use std::fmt;
 use wire::{Direction, Port};
 
 // One of the hub's two wires.
@@ -13,38 +15,49 @@ pub enum Cable {
     Second,
 }
 
-pub(crate) fn read_cable(word: &[u8]) -> Result<Cable, Misread>
-    ensures { result ≡ cable_read word.now }
-{
-    if is_named(word, b"1") {
-        return Ok(Cable::First);
+impl fmt::Display for Cable {
+    ghost output = { λ cable. Some (cable_name cable) };
+
+    fn fmt<W: fmt::Write>(&self, f: &mut fmt::Formatter<W>) -> fmt::Result {
+        f.write_str(match self {
+            Cable::First => "1",
+            Cable::Second => "2",
+        })
     }
-    if is_named(word, b"2") {
-        return Ok(Cable::Second);
-    }
-    Err(Misread::NotACable)
 }
 
-pub(crate) fn read_port(word: &[u8]) -> Result<Port, Misread>
-    ensures { result ≡ port_read word.now }
-{
-    if is_named(word, b"open") {
-        return Ok(Port::Open);
+impl Argument for Cable {
+    type Value = Cable;
+
+    ghost reading = { cable_read };
+
+    fn read(word: &[u8]) -> Result<Cable, Misread> {
+        let names = [("1", Cable::First), ("2", Cable::Second)];
+        named(word, &names, Misread::NotACable)
     }
-    if is_named(word, b"closed") {
-        return Ok(Port::Closed);
-    }
-    Err(Misread::NotAPort)
 }
 
-pub(crate) fn read_direction(word: &[u8]) -> Result<Direction, Misread>
-    ensures { result ≡ direction_read word.now }
-{
-    if is_named(word, b"outward") {
-        return Ok(Direction::Outward);
+impl Argument for Port {
+    type Value = Port;
+
+    ghost reading = { port_read };
+
+    fn read(word: &[u8]) -> Result<Port, Misread> {
+        let names = [("open", Port::Open), ("closed", Port::Closed)];
+        named(word, &names, Misread::NotAPort)
     }
-    if is_named(word, b"homeward") {
-        return Ok(Direction::Homeward);
+}
+
+impl Argument for Direction {
+    type Value = Direction;
+
+    ghost reading = { direction_read };
+
+    fn read(word: &[u8]) -> Result<Direction, Misread> {
+        let names = [
+            ("outward", Direction::Outward),
+            ("homeward", Direction::Homeward),
+        ];
+        named(word, &names, Misread::NotADirection)
     }
-    Err(Misread::NotADirection)
 }

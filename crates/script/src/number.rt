@@ -1,8 +1,9 @@
 // Numbers written in decimal digits.
 ghost use Rattle.std.specs.Prelude.{◌≡◌, ◌≤◌, IfOk};
-ghost use Rattle.script.specs.Numbers.{number_read, seed_read};
+ghost use Rattle.script.specs.Numbers.{number_read, seed_read, most_bytes};
 
 use super::Misread;
+use super::argument::Argument;
 
 // A memory and a buffer of a script have at most 64 MiB, so that no script uses up the machine.
 pub const MOST_BYTES: u32 = 67_108_864;
@@ -18,7 +19,7 @@ pub fn read_number(word: &[u8], limit: u64) -> Result<u64, Misread>
     }
     let mut number: u64 = 0;
     for digit in word {
-        if *digit < b'0' || *digit > b'9' {
+        if !digit.is_ascii_digit() {
             return Err(Misread::NotANumber);
         }
         let units = u64::from(*digit - b'0');
@@ -27,10 +28,62 @@ pub fn read_number(word: &[u8], limit: u64) -> Result<u64, Misread>
     Ok(number)
 }
 
+// A number, or 255 where it is above that.
+impl Argument for u8 {
+    type Value = u8;
+
+    ghost reading = { number_read 255 };
+
+    fn read(word: &[u8]) -> Result<u8, Misread> {
+        Ok(read_number(word, 255)? as u8)
+    }
+}
+
+// A number, or 65535 where it is above that.
+impl Argument for u16 {
+    type Value = u16;
+
+    ghost reading = { number_read 65535 };
+
+    fn read(word: &[u8]) -> Result<u16, Misread> {
+        Ok(read_number(word, 65535)? as u16)
+    }
+}
+
+// A number, or the greatest of 32 bits where it is above that.
+impl Argument for u32 {
+    type Value = u32;
+
+    ghost reading = { number_read 4294967295 };
+
+    fn read(word: &[u8]) -> Result<u32, Misread> {
+        Ok(read_number(word, 4_294_967_295)? as u32)
+    }
+}
+
+// How many bytes a memory or a buffer has.
+pub(crate) struct Length;
+
+impl Argument for Length {
+    type Value = u32;
+
+    ghost reading = { number_read most_bytes };
+
+    fn read(word: &[u8]) -> Result<u32, Misread> {
+        Ok(read_number(word, u64::from(MOST_BYTES))? as u32)
+    }
+}
+
 // The seed of a pattern, which counts modulo 256.
-pub(crate) fn read_seed(word: &[u8]) -> Result<u8, Misread>
-    ensures { result ≡ seed_read word.now }
-{
-    let seed = read_number(word, u64::MAX)?;
-    Ok((seed % 256) as u8)
+pub(crate) struct Seed;
+
+impl Argument for Seed {
+    type Value = u8;
+
+    ghost reading = { seed_read };
+
+    fn read(word: &[u8]) -> Result<u8, Misread> {
+        let seed = read_number(word, u64::MAX)?;
+        Ok((seed % 256) as u8)
+    }
 }
