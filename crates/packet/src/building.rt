@@ -1,19 +1,29 @@
 // Building a packet into the bytes that are sent.
-ghost use Rattle.std.specs.Prelude.{◌≡◌};
-ghost use Rattle.packet.specs.Building.{build_answer, build_memory};
+ghost use Rattle.std.specs.Prelude.{◌≡◌, ◌≤◌, length};
+ghost use Rattle.packet.specs.Building.{building, built_memory, build_answer, build_memory};
 ghost use Rattle.packet.specs.Parts.{parts, token, data_packet, handshake};
 
 use super::check::{body_check, token_check};
-use super::{DataKind, Handshake, Kind, Packet, Refusal, TokenKind};
+use super::{DataKind, Handshake, Kind, Packet, Refusal, TokenKind, WellFormed};
 
 impl Packet<'_> {
-    // Fills the front of the memory with the packet's bytes and the rest with zeros, and answers how many bytes the
-    // packet has. A part that is too wide for its field is refused, and the memory is left alone.
+    // A part that is too wide for its field is refused, and the memory is left alone.
     pub fn build(self, out: &mut [u8; 67]) -> Result<usize, Refusal>
         ensures answer { result ≡ build_answer (parts self.entry) }
         ensures memory { out.new ≡ build_memory (parts self.entry) out.old }
     {
-        match self {
+        Ok(WellFormed::new(self)?.build(out))
+    }
+}
+
+impl WellFormed<'_> {
+    // Fills the front of the memory with the packet's bytes and the rest with zeros, and answers how many bytes the
+    // packet has.
+    pub fn build(self, out: &mut [u8; 67]) -> usize
+        ensures count { result ≡ length (building (parts self.entry.packet)) }
+        ensures memory { out.new ≡ built_memory (parts self.entry.packet) }
+    {
+        match self.packet {
             Packet::Token {
                 kind,
                 address,
@@ -25,18 +35,12 @@ impl Packet<'_> {
     }
 }
 
-fn build_token(
-    kind: TokenKind,
-    address: u8,
-    endpoint: u8,
-    out: &mut [u8; 67],
-) -> Result<usize, Refusal>
-    ensures answer { result ≡ build_answer (token kind address endpoint) }
-    ensures memory { out.new ≡ build_memory (token kind address endpoint) out.old }
+#[tactic(auto, unfolding(crate::specs::Building::building))]
+fn build_token(kind: TokenKind, address: u8, endpoint: u8, out: &mut [u8; 67]) -> usize
+    requires { (address ≤ 127) × (endpoint ≤ 15) }
+    ensures count { result ≡ length (building (token kind address endpoint)) }
+    ensures memory { out.new ≡ built_memory (token kind address endpoint) }
 {
-    if address > 127 || endpoint > 15 {
-        return Err(Refusal::TooWide);
-    }
     let word = u16::from(address)
         + u16::from(endpoint) * 128
         + token_check(address, endpoint) * 2048;
@@ -45,31 +49,30 @@ fn build_token(
     out[0] = u8::from(Kind::Token(kind));
     out[1] = low;
     out[2] = high;
-    Ok(3)
+    3
 }
 
-fn build_data(kind: DataKind, body: &[u8], out: &mut [u8; 67]) -> Result<usize, Refusal>
-    ensures answer { result ≡ build_answer (data_packet kind body.now) }
-    ensures memory { out.new ≡ build_memory (data_packet kind body.now) out.old }
+fn build_data(kind: DataKind, body: &[u8], out: &mut [u8; 67]) -> usize
+    requires { length body.now ≤ 64 }
+    ensures count { result ≡ length (building (data_packet kind body.now)) }
+    ensures memory { out.new ≡ built_memory (data_packet kind body.now) }
 {
     let length = body.len();
-    if length > 64 {
-        return Err(Refusal::TooWide);
-    }
     let [low, high] = body_check(body).to_le_bytes();
     *out = [0; 67];
     out[0] = u8::from(Kind::Data(kind));
     out[1..length + 1].copy_from_slice(body);
     out[length + 1] = low;
     out[length + 2] = high;
-    Ok(length + 3)
+    length + 3
 }
 
-fn build_handshake(kind: Handshake, out: &mut [u8; 67]) -> Result<usize, Refusal>
-    ensures answer { result ≡ build_answer (handshake kind) }
-    ensures memory { out.new ≡ build_memory (handshake kind) out.old }
+#[tactic(auto, unfolding(crate::specs::Building::building))]
+fn build_handshake(kind: Handshake, out: &mut [u8; 67]) -> usize
+    ensures count { result ≡ length (building (handshake kind)) }
+    ensures memory { out.new ≡ built_memory (handshake kind) }
 {
     *out = [0; 67];
     out[0] = u8::from(Kind::Handshake(kind));
-    Ok(1)
+    1
 }

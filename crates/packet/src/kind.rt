@@ -121,17 +121,3 @@ impl TryFrom<u8> for Kind {
         }
     }
 }
-
-impl Kind {
-    pub fn pid(self) -> u8
-        ensures { result ≡ pid self }
-    {
-        u8::from(self)
-    }
-
-    pub fn from_pid(byte: u8) -> Result<Kind, Refusal>
-        ensures { result ≡ kind_of_pid byte }
-    {
-        Kind::try_from(byte)
-    }
-}

@@ -29,14 +29,6 @@ impl From<Refusal> for u8 {
     }
 }
 
-impl Refusal {
-    pub fn number(self) -> u8
-        ensures { result ≡ refusal_number self }
-    {
-        u8::from(self)
-    }
-}
-
 impl fmt::Display for Refusal {
     ghost output = { λ refusal. Some (refused_text (refusal_number refusal)) };
 

@@ -1,6 +1,6 @@
 // A packet whose parts fit their fields: it can always be built.
-ghost use Rattle.std.specs.Prelude.{◌≡◌, ◌↔◌, true, length, IsOk, IfOk, IfErr};
-ghost use Rattle.packet.specs.Building.{building, built_memory, can_be_built};
+ghost use Rattle.std.specs.Prelude.{◌≡◌, ◌↔◌, true, IsOk, IfOk, IfErr};
+ghost use Rattle.packet.specs.Building.{can_be_built};
 ghost use Rattle.packet.specs.Parts.{parts, data_packet, handshake};
 ghost use Rattle.packet.specs.declared.refusal.Refusal.TheVariants.{TooWide};
 
@@ -56,14 +56,5 @@ impl<'a> WellFormed<'a> {
         WellFormed {
             packet: Packet::handshake(kind),
         }
-    }
-
-    // Fills the front of the memory with the packet's bytes and the rest with zeros, and answers how many bytes the
-    // packet has.
-    pub fn build(self, out: &mut [u8; 67]) -> usize
-        ensures count { result ≡ length (building (parts self.entry.packet)) }
-        ensures memory { out.new ≡ built_memory (parts self.entry.packet) }
-    {
-        self.packet.build(out).unwrap()
     }
 }

@@ -1,9 +1,8 @@
-use Rattle.std.proofs.Common.{◌≡◌, ℕ, suc, ◌+◌, ◌-◌, ◌≤◌, true, List, [], ◌∷◌, ◌++◌, length, get_or, drop, set, replicate, Ok, sym, ap, ◌∙◌, append_assoc, arith, length-append}
+use Rattle.std.proofs.Common.{◌≡◌, ℕ, suc, ◌+◌, ◌-◌, ◌≤◌, List, [], ◌∷◌, ◌++◌, length, get_or, drop, set, replicate, sym, ap, ◌∙◌, append_assoc, arith, length-append}
 use Rattle.std.proofs.lemmas.List.{set_at, drop-replicate}
-use Rattle.std.proofs.lemmas.Bool.{le-leb, cond-true}
 use Rattle.packet.specs.declared.kind.DataKind.{DataKind}
 use Rattle.packet.specs.declared.kind.Kind.TheVariants.{Data}
-use Rattle.packet.specs.Building.{building, can_be_built, build_answer, build_memory, body_check, word_bytes}
+use Rattle.packet.specs.Building.{building, built_memory, body_check, word_bytes}
 use Rattle.packet.specs.Kinds.{pid}
 use Rattle.packet.specs.Parts.{data_packet}
 use Rattle.packet.proofs.Words.{le_bytes_of_word}
@@ -17,30 +16,24 @@ behind first body z x y =
     ∙ ap (λ l. first ∷ l) (append_assoc body (x ∷ []) (y ∷ z) ∙ sym (append_assoc body (x ∷ y ∷ []) z))
 
 module _ (k : DataKind) (body : List ℕ) (short : length body ≤ 64) where
-  can : can_be_built (data_packet k body) ≡ true
-  can = le-leb (length body) 64 short
-
-  answered : Ok (length body + 3) ≡ build_answer (data_packet k body)
+  counted : length body + 3 ≡ length (building (data_packet k body))
   unfolding building
-  answered = ap Ok (omega (arith, length-append body (word_bytes (body_check body)))) ∙ sym (cond-true _ _ _ can)
+  counted = omega (arith, length-append body (word_bytes (body_check body)))
 
   zeros : drop {A = ℕ} (length body + 1 - 1) (replicate 66 0) ≡ 0 ∷ 0 ∷ replicate (64 - length body) 0
   zeros =
       let left : 66 - (length body + 1 - 1) ≡ suc (suc (64 - length body)) = omega arith in
       ◌∙◌ {b = replicate (66 - (length body + 1 - 1)) 0} (drop-replicate (length body + 1 - 1) 66 0) (ap (λ n. replicate n 0) left)
 
-  filled : (first : ℕ) (copied bytes before : List ℕ) → first ≡ pid (Data k) → copied ≡ body → bytes ≡ word_bytes (body_check body)
-      → set (set (first ∷ (copied ++ drop (length body + 1 - 1) (replicate 66 0))) (length body + 1) (get_or bytes 0 0)) (length body + 2) (get_or bytes 1 0) ≡ build_memory (data_packet k body) before
+  filled : (first : ℕ) (copied bytes : List ℕ) → first ≡ pid (Data k) → copied ≡ body → bytes ≡ word_bytes (body_check body)
+      → set (set (first ∷ (copied ++ drop (length body + 1 - 1) (replicate 66 0))) (length body + 1) (get_or bytes 0 0)) (length body + 2) (get_or bytes 1 0) ≡ built_memory (data_packet k body)
   unfolding building
-  filled first copied bytes before f same b =
-      let rest : 64 - length body ≡ 67 - length (building (data_packet k body)) = omega (arith, length-append body (word_bytes (body_check body))) in
-      rw (same, zeros, behind first body (replicate (64 - length body) 0) (get_or bytes 0 0) (get_or bytes 1 0), f, b)
-      (ap (λ n. building (data_packet k body) ++ replicate n 0) rest ∙ sym (cond-true _ _ _ can))
+  filled first copied bytes f same b =
+      let rest : 64 - length body ≡ 67 - length (building (data_packet k body)) = omega (arith, counted) in
+      rw (same, zeros, behind first body (replicate (64 - length body) 0) (get_or bytes 0 0) (get_or bytes 1 0), f, b) (ap (λ n. building (data_packet k body) ++ replicate n 0) rest)
 
 pub returns : goal.returns
-returns c =
-    let short : length c.args.body.now ≤ 64 = omega arith in
-    record {
-      answer = answered c.args.kind _ short;
-      memory = filled c.args.kind _ short _ _ _ _ c.from.ensures c.copy_from_slice.ensures.after (c.to_le_bytes.ensures ∙ le_bytes_of_word _ c.body_check.type_inv ∙ ap word_bytes c.body_check.ensures);
-    }
+returns c = record {
+  count = counted c.args.kind _ c.requires;
+  memory = filled c.args.kind _ c.requires _ _ _ c.from.ensures c.copy_from_slice.ensures.after (c.to_le_bytes.ensures ∙ le_bytes_of_word _ c.body_check.type_inv ∙ ap word_bytes c.body_check.ensures);
+}
