@@ -21,12 +21,9 @@ fn run_input(rt: &HostRuntime) -> io::Result<bool> {
 fn asks_for_help(arguments: &[String]) -> bool
     ensures { result ≡ help_asked arguments.now }
 {
-    for argument in arguments {
-        if argument.as_str() == "--help" {
-            return true;
-        }
-    }
-    false
+    arguments
+        .iter()
+        .any(|argument| argument.as_str() == "--help")
 }
 
 // Runs what the arguments name, or standard input, and says whether all of it was understood.
