@@ -41,12 +41,16 @@ plan_of (Some Capacity) size = sends CapacityReply 8
 plan_of (Some (Read sector count)) size = within size sector count (sends (Sectors sector) (count * 512))
 plan_of (Some (Write sector count)) size = within size sector count (receives sector (count * 512))
 
+-- the halt of a direction's endpoint begun or ended
+abbrev pub halt_set : DataDirection → Bool → Halts → Halts
+halt_set In halt (Each s r) = Each halt r
+halt_set Out halt (Each s r) = Each s halt
+halt_set In halt Invalid = Invalid
+halt_set Out halt Invalid = Invalid
+
 -- the endpoint of a direction halts
 abbrev pub halting : DataDirection → Halts → Halts
-halting In (Each s r) = Each true r
-halting Out (Each s r) = Each s true
-halting In Invalid = Invalid
-halting Out Invalid = Invalid
+halting d h = halt_set d true h
 
 -- it halts if bytes are still due
 abbrev pub if_due : ℕ → DataDirection → Halts → Halts

@@ -2,7 +2,7 @@
 ghost use Rattle.std.specs.Prelude.{◌≡◌, ◌≤◌};
 ghost use Rattle.packet.specs.Parts.{data_packet};
 ghost use Rattle.reader.specs.Answers.{answer_seen};
-ghost use Rattle.reader.specs.BulkEnds.{ComesTo, halted, wanted, bulk_data, offered, bulk_in, bulk_acknowledged, bulk_ack};
+ghost use Rattle.reader.specs.BulkEnds.{ComesTo, wanted, bulk_data, offered, bulk_in, bulk_acknowledged, bulk_ack};
 ghost use Rattle.reader.specs.Control.{with_bulk};
 ghost use Rattle.reader.specs.Disk.{disk_of, Left};
 ghost use Rattle.reader.specs.State.{seen};
@@ -10,22 +10,10 @@ ghost use Rattle.reader.specs.State.{seen};
 use super::answer::Answer;
 use super::phase::Phase;
 use super::sending::{status_body, waiting_body};
-use super::state::{Core, Expectation, Halts};
+use super::state::{Core, Expectation};
 use packet::{DataKind, Handshake};
 use store::Store;
 use transport::DataDirection;
-
-impl Halts {
-    fn is_halted(self, direction: DataDirection) -> bool
-        ensures { result ≡ halted direction self }
-    {
-        match (self, direction) {
-            (Halts::Each { sending, .. }, DataDirection::In) => sending,
-            (Halts::Each { receiving, .. }, DataDirection::Out) => receiving,
-            (Halts::Invalid, _) => true,
-        }
-    }
-}
 
 impl Core {
     // The acknowledgement of what was sent.

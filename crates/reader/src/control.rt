@@ -1,7 +1,7 @@
 // The control endpoint: addresses, requests and what they do.
 ghost use Rattle.std.specs.Prelude.{◌≡◌, ◌+◌, ◌*◌, length};
 ghost use Rattle.reader.specs.Answers.{answer_seen};
-ghost use Rattle.reader.specs.Control.{addressed, settled, acknowledged, heard_too, clear_asked, asked, begun, halt_cleared, halts_kept, effect, control_in, setup_data, control_data, control_ack, expecting, with_control, with_addresses};
+ghost use Rattle.reader.specs.Control.{addressed, settled, acknowledged, heard_too, clear_asked, asked, begun, halt_cleared, effect, control_in, setup_data, control_data, control_ack, expecting, with_control, with_addresses};
 ghost use Rattle.reader.specs.State.{seen};
 ghost use Rattle.reader.specs.declared.state.Request.TheVariants.{ClearHalt};
 
@@ -77,40 +77,16 @@ fn asked(configured: bool, kind: u8, request: u8, value: u16, index: u16) -> Tra
     }
 }
 
-impl Halts {
-    // Over a reset of the transport halts stay, and can be cleared from then on.
-    fn keep(self) -> Halts
-        ensures { result ≡ halts_kept self }
-    {
-        match self {
-            Halts::Each { .. } => self,
-            Halts::Invalid => Halts::Each {
-                sending: true,
-                receiving: true,
-            },
-        }
-    }
-}
-
 impl Core {
     // Ends a halt and sets its toggle to DATA0, unless an invalid block came.
     fn clear_halt(&mut self, direction: DataDirection)
         ensures { seen self.new ≡ effect (ClearHalt direction) (seen self.old) }
     {
-        let Halts::Each { sending, receiving } = self.halts else {
+        let Halts::Each { .. } = self.halts else {
             return;
         };
         self.toggles = self.toggles.reset(direction);
-        self.halts = match direction {
-            DataDirection::In => Halts::Each {
-                sending: false,
-                receiving,
-            },
-            DataDirection::Out => Halts::Each {
-                sending,
-                receiving: false,
-            },
-        };
+        self.halts = self.halts.with(direction, false);
     }
 
     // What a request does when its status is first sent.

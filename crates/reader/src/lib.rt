@@ -6,6 +6,7 @@ mod answering;
 mod bulk;
 mod control;
 mod device;
+mod halts;
 mod phase;
 mod planning;
 mod promises;

@@ -44,7 +44,7 @@ impl Core {
             }
             Ok(Verdict::Locked | Verdict::Full) | Err(_) => {
                 if due > 0 {
-                    self.halts = self.halts.halt(DataDirection::Out);
+                    self.halts = self.halts.with(DataDirection::Out, true);
                 }
                 self.phase = Phase::Status {
                     block: StatusBlock {

@@ -2,7 +2,7 @@
 ghost use Rattle.std.specs.Prelude.{◌≡◌, ◌≤◌};
 ghost use Rattle.reader.specs.Control.{with_bulk};
 ghost use Rattle.reader.specs.Plans.{plan_seen, Bounded};
-ghost use Rattle.reader.specs.Stages.{halting, if_due, over, begin, take_block};
+ghost use Rattle.reader.specs.Stages.{if_due, over, begin, take_block};
 ghost use Rattle.reader.specs.State.{seen};
 
 use super::phase::{Phase, Receiving, Sending};
@@ -10,31 +10,13 @@ use super::planning::{Plan, plan_of};
 use super::state::{Core, Halts};
 use transport::{Command, CommandBlock, DataDirection, Status, StatusBlock};
 
-impl Halts {
-    pub(crate) fn halt(self, direction: DataDirection) -> Halts
-        ensures { result ≡ halting direction self }
-    {
-        match (self, direction) {
-            (Halts::Each { receiving, .. }, DataDirection::In) => Halts::Each {
-                sending: true,
-                receiving,
-            },
-            (Halts::Each { sending, .. }, DataDirection::Out) => Halts::Each {
-                sending,
-                receiving: true,
-            },
-            (Halts::Invalid, _) => Halts::Invalid,
-        }
-    }
-}
-
 impl Core {
     // Data are over: the endpoint halts if bytes are still due, and a status waits.
     pub(crate) fn end_data(&mut self, direction: DataDirection, block: StatusBlock)
         ensures { seen self.new ≡ with_bulk (over self.old.toggles self.old.halts direction block.tag block.residue block.status) (seen self.old) }
     {
         if block.residue > 0 {
-            self.halts = self.halts.halt(direction);
+            self.halts = self.halts.with(direction, true);
         }
         self.phase = Phase::Status { block, sent: false };
     }

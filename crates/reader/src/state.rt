@@ -51,13 +51,6 @@ pub enum Halts {
     Invalid,
 }
 
-impl Halts {
-    pub(crate) const NONE: Halts = Halts::Each {
-        sending: false,
-        receiving: false,
-    };
-}
-
 // Data in are those of the endpoint that sends (1 IN), data out those of the one that receives (2 OUT). The bytes of a
 // sector that is being received stand in the front of the buffer.
 #[derive(Clone, Copy)]
