@@ -24,7 +24,8 @@ pub struct Sending {
 }
 
 // Data on their way from the host: how many bytes are still due by the block's length, how many are left to come, which
-// sector they are for, and how many bytes of that sector have come; they stand in the front of the buffer.
+// sector they are for, and how many bytes of that sector have come; they stand in the front of the buffer, which is fixed
+// memory of the core, so that no step copies a sector.
 #[derive(Clone, Copy)]
 pub struct Receiving {
     pub tag: u32,

@@ -79,8 +79,7 @@ impl Core {
         let mut rest = receiving;
         rest.due = rest.due.saturating_sub(expected);
         rest.left -= expected;
-        let unfinished = end < 512;
-        if unfinished {
+        if end < 512 {
             rest.come = end;
             self.phase = Phase::DataOut(rest);
             return;

@@ -48,25 +48,21 @@ impl Core {
         ensures { seen self.new ≡ with_bulk (data_acknowledged self.old.toggles self.old.halts sending.tag sending.due sending.left sending.moved sending.source) (seen self.old) }
     {
         let count = sending.left.min(64);
-        let due = sending.due.saturating_sub(count);
-        let left = sending.left - count;
-        if left == 0 {
+        let mut rest = sending;
+        rest.due = rest.due.saturating_sub(count);
+        rest.left -= count;
+        rest.moved += count;
+        if rest.left == 0 {
             return self.end_data(
                 DataDirection::In,
                 StatusBlock {
-                    tag: sending.tag,
-                    residue: due,
+                    tag: rest.tag,
+                    residue: rest.due,
                     status: Status::Passed,
                 },
             );
         }
-        self.phase = Phase::DataIn(Sending {
-            tag: sending.tag,
-            due,
-            left,
-            moved: sending.moved + count,
-            source: sending.source,
-        });
+        self.phase = Phase::DataIn(rest);
     }
 }
 
