@@ -1,7 +1,7 @@
 -- What one exchange comes to, from the contracts of the wire, of the reader and of the store.
-use Rattle.std.proofs.Common.{◌≡◌, ℕ, ◌-◌, min, true, List, [], ◌++◌, length, take, Some, None, sym, refl, ap, ◌∙◌, subst, subst₂, inl, inr, arith}
+use Rattle.std.proofs.Common.{◌≡◌, ℕ, min, true, List, [], ◌++◌, length, take, Some, None, sym, refl, ap, ◌∙◌, subst, subst₂, inl, inr, arith}
 use Rattle.std.proofs.lemmas.List.{take_at}
-use Rattle.packet.specs.Building.{building, can_be_built}
+use Rattle.packet.specs.Building.{building, built_memory, can_be_built}
 use Rattle.packet.specs.Parts.{Parts}
 use Rattle.packet.specs.Reading.{reading, refused}
 use Rattle.reader.specs.Answers.{Answer, quiet, says, answer_bytes, answer_memory}
@@ -74,12 +74,9 @@ module _ (p : Parts) (n : ℕ) (s : State) (d : Disk) (f : Delivery) (s' : State
         (f, g, d'.verdict, (sym r.3, refl)),
       )
 
--- a part of memory from its start, as code cuts it
-from_start : (n : ℕ) (memory : List ℕ) → take (n - 0) memory ≡ take n memory
-from_start n memory = ap (λ k. take k memory) (omega arith)
-
-front_of : (n : ℕ) (bytes memory behind : List ℕ) → memory ≡ bytes ++ behind → n ≡ length bytes → take (n - 0) memory ≡ bytes
-front_of n bytes memory behind is count = from_start n memory ∙ ap (take n) is ∙ take_at bytes behind n (sym count)
+-- bytes in front of their memory, as code cuts them
+front_of : (n : ℕ) (bytes memory behind : List ℕ) → memory ≡ bytes ++ behind → n ≡ length bytes → take n memory ≡ bytes
+front_of n bytes memory behind is count = ap (take n) is ∙ take_at bytes behind n (sym count)
 
 module _ (p : Parts) (can : can_be_built p ≡ true) (tally : ℕ) (s : State) (d : Disk) where
   -- from the two carryings and what the reader did between them
@@ -101,15 +98,15 @@ module _ (p : Parts) (can : can_be_built p ≡ true) (tally : ℕ) (s : State) (
       (done.0, done.1, subst₂ (λ x y. Runs (sends p) (record { reader = x; disk = y; spoiled = n }) (reading home) done.0) stands.reader stands.disk done.2)
 
   -- the same, from the memories that the bytes stand in
-  pub exchanged : (sent : ℕ) (memory : List ℕ) → take sent memory ≡ building p
-      → (arrived : ℕ) (heard : List ℕ) (between : ℕ) → Carried (take (sent - 0) memory) tally (take arrived heard) between
-      → (s' : State) (d' : Disk) → s' ≡ (hears s d (reading (take (arrived - 0) heard))).state → Left (hears s d (reading (take (arrived - 0) heard))).written d d'
-      → (answered : ℕ) (answer : List ℕ) → answered ≡ length (answer_bytes (hears s d (reading (take (arrived - 0) heard))).answer) → answer ≡ answer_memory (hears s d (reading (take (arrived - 0) heard))).answer
-      → (home : List ℕ) (after : ℕ) → Carried (take (answered - 0) answer) between home after
+  pub exchanged : (sent : ℕ) (memory : List ℕ) → sent ≡ length (building p) → memory ≡ built_memory p
+      → (arrived : ℕ) (heard : List ℕ) (between : ℕ) → Carried (take sent memory) tally (take arrived heard) between
+      → (s' : State) (d' : Disk) → s' ≡ (hears s d (reading (take arrived heard))).state → Left (hears s d (reading (take arrived heard))).written d d'
+      → (answered : ℕ) (answer : List ℕ) → answered ≡ length (answer_bytes (hears s d (reading (take arrived heard))).answer) → answer ≡ answer_memory (hears s d (reading (take arrived heard))).answer
+      → (home : List ℕ) (after : ℕ) → Carried (take answered answer) between home after
       → Performs (sends p) (record { tally = tally; reader = s; disk = d }) (reading home) (record { tally = after; reader = s'; disk = d' })
-  exchanged sent memory is arrived heard between out s' d' state left answered answer count bytes home after back =
-      let a = (hears s d (reading (take (arrived - 0) heard))).answer in
-      by_bytes (take (arrived - 0) heard) between
-      (subst (λ l. Carried l tally (take (arrived - 0) heard) between) (from_start sent memory ∙ is) (subst (λ l. Carried (take (sent - 0) memory) tally l between) (sym (from_start arrived heard)) out))
+  exchanged sent memory count is arrived heard between out s' d' state left answered answer told bytes home after back =
+      let a = (hears s d (reading (take arrived heard))).answer in
+      by_bytes (take arrived heard) between
+      (subst (λ l. Carried l tally (take arrived heard) between) (front_of sent (building p) memory _ is count) out)
       s' d' state left home after
-      (subst (λ l. Carried l between home after) (front_of answered (answer_bytes a) answer _ bytes count) back)
+      (subst (λ l. Carried l between home after) (front_of answered (answer_bytes a) answer _ bytes told) back)

@@ -7,10 +7,15 @@ use Rattle.packet.specs.declared.kind.Kind.TheVariants.{Token, Data, Handshake}
 use Rattle.packet.specs.declared.refusal.Refusal.{Refusal}
 use Rattle.packet.specs.Building.{body_check}
 use Rattle.packet.specs.Kinds.{kind_of_pid}
-use Rattle.packet.specs.Parts.{token, data_packet}
+use Rattle.packet.specs.Parts.{token, data_packet, handshake}
 use Rattle.packet.specs.declared.kind.Handshake.{Handshake as Handshakes}
 use Rattle.packet.specs.Reading.{Reading, packet, refused, reading, reading_rest, reading_token, reading_data, reading_handshake, last_word}
-use Rattle.host.specs.Arrivals.{AtMost64}
+
+abbrev pub AtMost64 : Reading → Type 0
+AtMost64 (refused n) = Unit {0}
+AtMost64 (packet (token k a e)) = Unit {0}
+AtMost64 (packet (data_packet k body)) = length body ≤ 64
+AtMost64 (packet (handshake h)) = Unit {0}
 
 by_test : (b : Bool) (x : Reading) (n : ℕ) → (b ≡ true → AtMost64 x) → AtMost64 (cond b x (refused n))
 by_test true x n h = h refl

@@ -24,7 +24,7 @@ abbrev pub attached : Transfer → Bulk → Expectation → State
 attached t b e = record { control = record { addresses = One 1; configured = true; transfer = t }; bulk = b; expects = e }
 
 abbrev pub bulk_at : (sending receiving : DataKind) → Halts → Phase → Bulk
-bulk_at sending receiving h p = record { toggles = record { sending = sending; receiving = receiving }; halts = h; phase = p }
+bulk_at sending receiving h p = record { toggles = record { data_in = sending; data_out = receiving }; halts = h; phase = p }
 
 abbrev pub world : ℕ → State → Disk → World
 world n s d = record { reader = s; disk = d; spoiled = n }

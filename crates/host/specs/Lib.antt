@@ -1,4 +1,5 @@
 pub mod Process
+pub mod Buses
 pub mod Faults
 pub mod Pipes
 pub mod Transactions

@@ -4,11 +4,13 @@ use Rattle.packet.specs.Parts.{Parts}
 use Rattle.packet.specs.Reading.{Reading, refused}
 use Rattle.reader.specs.Answers.{Answer, quiet, says}
 use Rattle.reader.specs.BulkEnds.{Outcome}
-use Rattle.reader.specs.declared.state.Core.{Core}
+use Rattle.reader.specs.declared.device.Reader.{Reader}
 use Rattle.reader.specs.Disk.{Disk, Written, disk_of}
 use Rattle.reader.specs.Hears.{hears}
 use Rattle.reader.specs.State.{State, fresh, seen}
 use Rattle.store.specs.declared.answers.Verdict.{Verdict}
+use Rattle.store.specs.declared.interface.Store as store
+use Rattle.wire.specs.declared.interface.Wire as wire
 use Rattle.wire.specs.Delivery.{Delivery, delivered, spoiled, heard_of}
 
 -- a tree of what is said: it is done with a result; it sends a packet, and goes on by what is heard; it resets the port;
@@ -88,5 +90,5 @@ abbrev pub Performs : {A : Type 0} → Process A → Bus → A → Bus → Type 
 Performs tree before a after = (w : World) → Stands before w → (w' : World) × Stands after w' × Runs tree w a w'
 
 -- the bus by the ghost members of the wire and of the store
-abbrev pub bus_of : {W S : Type 0} → (W → ℕ) → (S → ℕ) → (S → List (List ℕ)) → (S → ℕ → List ℕ → Verdict) → W → Core → S → Bus
-bus_of tally size sectors verdict wire core store = record { tally = tally wire; reader = seen core; disk = disk_of size sectors verdict store }
+abbrev pub bus_of : {W S : Type 0} → wire.Ghosts W → store.Ghosts S → W → Reader S → Bus
+bus_of w s wire reader = record { tally = w.tally wire; reader = seen reader.core; disk = disk_of s reader.store }

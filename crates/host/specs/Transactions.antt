@@ -4,7 +4,7 @@ use Rattle.packet.specs.declared.kind.DataKind.{DataKind}
 use Rattle.packet.specs.declared.kind.Handshake.TheVariants.{Ack, Nak, Stall}
 use Rattle.packet.specs.Parts.{Parts, token, data_packet, handshake}
 use Rattle.packet.specs.Reading.{Reading, packet, refused}
-use Rattle.reader.specs.BulkEnds.{same_kind}
+use Rattle.packet.specs.Kinds.{same_kind}
 use Rattle.host.specs.declared.fault.Cause.{Cause}
 use Rattle.host.specs.declared.fault.Cause.TheVariants.{Nothing, Damaged, Repeat, NotReady}
 use Rattle.host.specs.Process.{Process, done, send}

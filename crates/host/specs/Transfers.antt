@@ -1,8 +1,12 @@
 -- Control transfers, and what is made of them: clearing a halt, attaching, recovering.
-use Rattle.std.specs.Prelude.{ℕ, List, [], ◌∷◌, Ok, Err, Result}
+use Rattle.std.specs.Prelude.{ℕ, List, [], ◌∷◌, Some, None, Ok, Err, Option, Result}
 use Rattle.packet.specs.declared.kind.DataKind.TheVariants.{Data0, Data1}
 use Rattle.packet.specs.declared.kind.TokenKind.TheVariants.{In, Setup}
 use Rattle.packet.specs.Parts.{token, data_packet}
+use Rattle.transport.specs.declared.blocks.DataDirection.{DataDirection}
+use Rattle.transport.specs.declared.blocks.DataDirection.TheVariants.{In as DataIn, Out as DataOut}
+use Rattle.transport.specs.declared.toggles.Toggles.{Toggles}
+use Rattle.transport.specs.Toggles.{both_fresh, toggle_freshened}
 use Rattle.host.specs.declared.fault.Cause.TheVariants.{Nothing, Stalled}
 use Rattle.host.specs.declared.fault.Fault.{Fault}
 use Rattle.host.specs.declared.control.Request.{Request}
@@ -10,13 +14,7 @@ use Rattle.host.specs.declared.control.Request.TheVariants.{SetAddress, Configur
 use Rattle.host.specs.declared.fault.Stage.{Stage}
 use Rattle.host.specs.declared.fault.Stage.TheVariants.{Control}
 use Rattle.host.specs.declared.fault.TransactionFault.{TransactionFault}
-use Rattle.host.specs.declared.transaction.Transacted.{Transacted}
-use Rattle.host.specs.declared.transaction.Transacted.TheVariants.{Done, Stalled as MetStall}
 use Rattle.host.specs.declared.fault.TransportFault.{TransportFault}
-use Rattle.host.specs.declared.judging.Fit.TheVariants.{Any}
-use Rattle.host.specs.declared.toggles.Toggles.{Toggles}
-use Rattle.host.specs.declared.toggles.Direction.{Direction}
-use Rattle.host.specs.declared.toggles.Direction.TheVariants.{Inward, Outward}
 use Rattle.host.specs.Faults.{located, tagged}
 use Rattle.host.specs.Process.{Process, done, reset, bind}
 use Rattle.host.specs.Transactions.{Ending, passed, stalled, gave_up}
@@ -33,7 +31,7 @@ reply_ended stalled = done (Err (located Stalled 0 Control 1))
 reply_ended (gave_up cause) = done (Err (located cause 0 Control 1))
 
 abbrev pub setup_ended : ℕ → Ending (Unit {0}) → Process Transferred
-setup_ended address (passed _) = bind (fetches 3 (token In address 0) Data1 Any Nothing) reply_ended
+setup_ended address (passed _) = bind (fetches 3 (token In address 0) Data1 None Nothing) reply_ended
 setup_ended address stalled = done (Err (located Stalled 0 Control 0))
 setup_ended address (gave_up cause) = done (Err (located cause 0 Control 0))
 
@@ -52,9 +50,9 @@ abbrev pub reset_setup : List ℕ
 reset_setup = 0x21 ∷ 0xff ∷ 0 ∷ 0 ∷ 0 ∷ 0 ∷ 0 ∷ 0 ∷ []
 
 -- clear halt names the endpoint with its direction: 1 IN, or 2 OUT
-abbrev pub clear_setup : Direction → List ℕ
-clear_setup Inward = 0x02 ∷ 0x01 ∷ 0 ∷ 0 ∷ 0x81 ∷ 0 ∷ 0 ∷ 0 ∷ []
-clear_setup Outward = 0x02 ∷ 0x01 ∷ 0 ∷ 0 ∷ 0x02 ∷ 0 ∷ 0 ∷ 0 ∷ []
+abbrev pub clear_setup : DataDirection → List ℕ
+clear_setup DataIn = 0x02 ∷ 0x01 ∷ 0 ∷ 0 ∷ 0x81 ∷ 0 ∷ 0 ∷ 0 ∷ []
+clear_setup DataOut = 0x02 ∷ 0x01 ∷ 0 ∷ 0 ∷ 0x02 ∷ 0 ∷ 0 ∷ 0 ∷ []
 
 abbrev pub request_setup : Request → List ℕ
 request_setup SetAddress = address_setup
@@ -63,18 +61,10 @@ request_setup ResetTransport = reset_setup
 request_setup (ClearHalt d) = clear_setup d
 
 -- how a transaction ended, where STALL gives up too, with the place of its packet
-abbrev pub placed_as : {A : Type 0} → ℕ → Stage → ℕ → Result (Transacted A) TransactionFault → Result A TransportFault
-placed_as endpoint stage packet (Ok (Done a)) = Ok a
-placed_as endpoint stage packet (Ok MetStall) = Err (located Stalled endpoint stage packet)
+abbrev pub placed_as : {A : Type 0} → ℕ → Stage → ℕ → Result (Option A) TransactionFault → Result A TransportFault
+placed_as endpoint stage packet (Ok (Some a)) = Ok a
+placed_as endpoint stage packet (Ok None) = Err (located Stalled endpoint stage packet)
 placed_as endpoint stage packet (Err fault) = Err (located fault.cause endpoint stage packet)
-
--- the host's toggles: both DATA0; one of them DATA0
-abbrev pub both_fresh : Toggles
-both_fresh = record { inward = Data0; outward = Data0 }
-
-abbrev pub freshened : Direction → Toggles → Toggles
-freshened Inward t = record { inward = Data0; outward = t.outward }
-freshened Outward t = record { inward = t.inward; outward = Data0 }
 
 -- what a step comes to, with the toggles after it
 abbrev pub Ended : Type 0 → Type 0
@@ -86,11 +76,11 @@ after_transfer given_up next (Ok _) = next
 after_transfer given_up next (Err fault) = done (given_up (Err fault))
 
 -- a halt is cleared, and with it that toggle
-abbrev pub cleared : Direction → Toggles → Transferred → Transferred × Toggles
-cleared d t (Ok _) = (Ok tt, freshened d t)
+abbrev pub cleared : DataDirection → Toggles → Transferred → Transferred × Toggles
+cleared d t (Ok _) = (Ok tt, toggle_freshened d t)
 cleared d t (Err fault) = (Err fault, t)
 
-abbrev pub clears : Direction → Toggles → Process (Transferred × Toggles)
+abbrev pub clears : DataDirection → Toggles → Process (Transferred × Toggles)
 clears d t = bind (transfers 1 (clear_setup d)) (λ r. done (cleared d t r))
 
 -- outside a command the tag is 0
@@ -108,5 +98,5 @@ abbrev pub recovers : Toggles → Process (Result (Unit {0}) Fault × Toggles)
 recovers t =
     bind (transfers 1 reset_setup)
     (after_transfer (settled t)
-    (bind (transfers 1 (clear_setup Inward))
-    (after_transfer (settled t) (bind (transfers 1 (clear_setup Outward)) (λ r. done (settled t r))))))
+    (bind (transfers 1 (clear_setup DataIn))
+    (after_transfer (settled t) (bind (transfers 1 (clear_setup DataOut)) (λ r. done (settled t r))))))

@@ -1,27 +1,23 @@
 -- Transactions as the code makes them, try by try: what is made of an answer, and what follows from that.
-use Rattle.std.specs.Prelude.{ℕ, zero, suc, Bool, true, false, List, length, Ok, Err, Result, ◌==◌}
+use Rattle.std.specs.Prelude.{ℕ, zero, suc, Bool, true, false, List, length, Some, None, Ok, Err, Option, Result, ◌==◌}
 use Rattle.packet.specs.declared.kind.DataKind.{DataKind}
 use Rattle.packet.specs.declared.kind.Handshake.TheVariants.{Ack, Nak, Stall}
 use Rattle.packet.specs.Parts.{Parts, token, data_packet, handshake}
 use Rattle.packet.specs.Reading.{Reading, packet, refused}
-use Rattle.reader.specs.BulkEnds.{same_kind}
+use Rattle.packet.specs.Kinds.{same_kind}
 use Rattle.host.specs.declared.fault.Cause.{Cause}
 use Rattle.host.specs.declared.fault.Cause.TheVariants.{Damaged, Repeat, NotReady}
 use Rattle.host.specs.declared.fault.TransactionFault.{TransactionFault}
-use Rattle.host.specs.declared.judging.Fit.{Fit}
-use Rattle.host.specs.declared.judging.Fit.TheVariants.{Any, Exactly}
 use Rattle.host.specs.declared.judging.Reply.{Reply}
 use Rattle.host.specs.declared.judging.Reply.TheVariants.{Acknowledged, Stalled, Failed}
-use Rattle.host.specs.declared.transaction.Transacted.{Transacted}
-use Rattle.host.specs.declared.transaction.Transacted.TheVariants.{Done, Stalled as MetStall}
 use Rattle.host.specs.Process.{Process, done, send}
 use Rattle.host.specs.Transactions.{Ending, passed, stalled, gave_up, cause_of}
 
 -- an ending as the code answers it
-abbrev pub ending_seen : {A B : Type 0} → (A → B) → Result (Transacted A) TransactionFault → Ending B
-ending_seen f (Ok (Done a)) = passed (f a)
-ending_seen f (Ok MetStall) = stalled
-ending_seen f (Err fault) = gave_up fault.cause
+abbrev pub ending_seen : {A : Type 0} → Result (Option A) TransactionFault → Ending A
+ending_seen (Ok (Some a)) = passed a
+ending_seen (Ok None) = stalled
+ending_seen (Err fault) = gave_up fault.cause
 
 -- what is made of the answer to data that were sent
 abbrev pub reply_of : Reading → Reply
@@ -46,10 +42,10 @@ abbrev pub delivers : ℕ → Parts → Parts → Cause → Process (Ending (Uni
 delivers zero head body cause = done (gave_up cause)
 delivers (suc n) head body cause = send head (λ _. send body (λ r. by_reply (delivers n head body) (reply_of r)))
 
--- which lengths of new data fit
-abbrev pub fits : Fit → List ℕ → Bool
-fits Any body = true
-fits (Exactly n) body = length body == n
+-- which new data fit: any, or those of so many bytes
+abbrev pub fits : Option ℕ → List ℕ → Bool
+fits None body = true
+fits (Some n) body = length body == n
 
 -- what is made of the answer to an IN: new data that fit, a repeat, STALL, or a failure
 pub data Fetch : Type 0 where
@@ -63,7 +59,7 @@ fetch_data true true body = new body
 fetch_data true false body = failed Damaged
 fetch_data false fit body = repeated
 
-abbrev pub fetch_of : DataKind → Fit → Reading → Fetch
+abbrev pub fetch_of : DataKind → Option ℕ → Reading → Fetch
 fetch_of toggle fit (refused n) = failed (cause_of n)
 fetch_of toggle fit (packet (token k a e)) = failed Damaged
 fetch_of toggle fit (packet (data_packet k body)) = fetch_data (same_kind k toggle) (fits fit body) body
@@ -89,10 +85,10 @@ acknowledges repeated = send (handshake Ack) (λ _. done repeated)
 acknowledges stall = done stall
 acknowledges (failed cause) = done (failed cause)
 
-abbrev pub tries_fetch : Parts → DataKind → Fit → Process Fetch
+abbrev pub tries_fetch : Parts → DataKind → Option ℕ → Process Fetch
 tries_fetch head toggle fit = send head (λ r. acknowledges (fetch_of toggle fit r))
 
 -- an IN token, and what it is answered, with so many tries left
-abbrev pub fetches : ℕ → Parts → DataKind → Fit → Cause → Process (Ending (List ℕ))
+abbrev pub fetches : ℕ → Parts → DataKind → Option ℕ → Cause → Process (Ending (List ℕ))
 fetches zero head toggle fit cause = done (gave_up cause)
 fetches (suc n) head toggle fit cause = send head (λ r. by_fetch (fetches n head toggle fit) (fetch_of toggle fit r))

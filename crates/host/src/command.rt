@@ -14,9 +14,11 @@ pub struct DataOver {
     whole: bool,
 }
 
-// How a command ended that was not given up.
-#[derive(Clone, Copy)]
-pub enum Outcome<T> {
-    Passed(T),
-    Failed { residue: u32 },
+// The reader's answer to a command that it did not do: so many bytes were not moved.
+#[derive(Clone, Copy, PartialEq, Eq)]
+pub struct CommandFailed {
+    pub residue: u32,
 }
+
+// How a command ended that was not given up.
+pub type Outcome<T> = Result<T, CommandFailed>;

@@ -1,6 +1,8 @@
 // Why a transaction was given up, and where.
-ghost use Rattle.std.specs.Prelude.{◌≡◌};
-ghost use Rattle.host.specs.Faults.{cause_number, located, tagged};
+ghost use Rattle.std.specs.Prelude.{◌≡◌, Some};
+ghost use Rattle.host.specs.Faults.{cause_number, located, stage_name, tagged};
+
+use std::fmt;
 
 // The cause of the last try: nothing came, the answer was damaged or unfitting, a repeat came, NAK came, STALL came, or a
 // status or reply was wrong.
@@ -14,11 +16,11 @@ pub enum Cause {
     WrongReply,
 }
 
-impl Cause {
-    pub fn number(self) -> u8
-        ensures { result ≡ cause_number self }
-    {
-        match self {
+impl From<Cause> for u8 {
+    ghost from_gives = { λ cause number. number ≡ cause_number cause };
+
+    fn from(cause: Cause) -> u8 {
+        match cause {
             Cause::Nothing => 1,
             Cause::Damaged => 2,
             Cause::Repeat => 3,
@@ -26,6 +28,14 @@ impl Cause {
             Cause::Stalled => 5,
             Cause::WrongReply => 6,
         }
+    }
+}
+
+impl Cause {
+    pub fn number(self) -> u8
+        ensures { result ≡ cause_number self }
+    {
+        u8::from(self)
     }
 }
 
@@ -38,41 +48,56 @@ pub enum Stage {
     Control,
 }
 
+impl fmt::Display for Stage {
+    ghost output = { λ stage. Some (stage_name stage) };
+
+    fn fmt<W: fmt::Write>(&self, f: &mut fmt::Formatter<W>) -> fmt::Result {
+        f.write_str(match self {
+            Stage::Block => "block",
+            Stage::Data => "data",
+            Stage::Status => "status",
+            Stage::Control => "control",
+        })
+    }
+}
+
+// Where a transaction was given up: the endpoint by its number, the stage, and the packet's place in its stage or control
+// transfer.
+#[derive(Clone, Copy, PartialEq, Eq)]
+pub struct Place {
+    pub endpoint: u8,
+    pub stage: Stage,
+    pub packet: u32,
+}
+
 // What a transaction that was given up knows.
 #[derive(Clone, Copy)]
 pub struct TransactionFault {
     pub cause: Cause,
 }
 
-// What the transport adds: the endpoint by its number, the stage, and the packet's place in its stage or control transfer.
+// What the transport adds.
 #[derive(Clone, Copy)]
 pub struct TransportFault {
     pub transaction: TransactionFault,
-    pub endpoint: u8,
-    pub stage: Stage,
-    pub packet: u32,
+    pub place: Place,
 }
 
-// What giving up tells: the endpoint by its number, the tag of the command or 0, and the packet's place in its stage or
-// control transfer.
+// What giving up tells: the cause, the place, and the tag of the command or 0.
 #[derive(Clone, Copy)]
 pub struct Fault {
     pub cause: Cause,
-    pub endpoint: u8,
-    pub stage: Stage,
+    pub place: Place,
     pub tag: u32,
-    pub packet: u32,
 }
 
 impl TransactionFault {
-    pub fn at(self, endpoint: u8, stage: Stage, packet: u32) -> TransportFault
-        ensures { result ≡ located self.cause endpoint stage packet }
+    pub fn at(self, place: Place) -> TransportFault
+        ensures { result ≡ located self.cause place.endpoint place.stage place.packet }
     {
         TransportFault {
             transaction: self,
-            endpoint,
-            stage,
-            packet,
+            place,
         }
     }
 }
@@ -83,10 +108,8 @@ impl TransportFault {
     {
         Fault {
             cause: self.transaction.cause,
-            endpoint: self.endpoint,
-            stage: self.stage,
+            place: self.place,
             tag,
-            packet: self.packet,
         }
     }
 }

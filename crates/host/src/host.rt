@@ -1,14 +1,17 @@
 // The host: its toggles and the tag of its next command; attaching and recovering.
 ghost use Rattle.std.specs.Prelude.{◌≡◌};
+ghost use Rattle.host.specs.Buses.{PerformsOver};
 ghost use Rattle.host.specs.Process.{Performs, bus_of};
-ghost use Rattle.host.specs.Transfers.{both_fresh, freshened, clears, attaches, recovers};
+ghost use Rattle.host.specs.Transfers.{clears, attaches, recovers};
+ghost use Rattle.transport.specs.Toggles.{both_fresh};
 
-use super::control::{Request, transfer};
+use super::bus::Bus;
+use super::control::Request;
 use super::fault::{Fault, TransportFault};
 use super::pipe::Address;
-use super::toggles::{Direction, Toggles};
 use reader::Reader;
 use store::Store;
+use transport::{DataDirection, Toggles};
 use wire::Wire;
 
 #[derive(Drop)]
@@ -32,20 +35,14 @@ impl Host {
     // Clears a halt, and with it that toggle.
     pub(crate) fn clear_halt<W: Wire, S: Store>(
         &mut self,
-        direction: Direction,
-        wire: &mut W,
-        reader: &mut Reader<S>,
+        direction: DataDirection,
+        bus: &mut Bus<'_, W, S>,
     ) -> Result<(), TransportFault>
-        ensures performs { Performs (clears direction self.old.toggles) (bus_of W.Wire.tally S.Store.size S.Store.sectors S.Store.verdict wire.old reader.old.core reader.old.store) (result, self.new.toggles) (bus_of W.Wire.tally S.Store.size S.Store.sectors S.Store.verdict wire.new reader.new.core reader.new.store) }
+        ensures performs { PerformsOver W.Wire S.Store (clears direction self.old.toggles) bus.old (result, self.new.toggles) bus.new }
         ensures tag { self.new.tag ≡ self.old.tag }
     {
-        transfer(
-            Address::Assigned,
-            Request::ClearHalt(direction),
-            wire,
-            reader,
-        )?;
-        self.toggles = self.toggles.freshen(direction);
+        bus.transfer(Address::Assigned, Request::ClearHalt(direction))?;
+        self.toggles = self.toggles.reset(direction);
         Ok(())
     }
 
@@ -55,12 +52,13 @@ impl Host {
         wire: &mut W,
         reader: &mut Reader<S>,
     ) -> Result<(), Fault>
-        ensures performs { Performs (attaches self.old.toggles) (bus_of W.Wire.tally S.Store.size S.Store.sectors S.Store.verdict wire.old reader.old.core reader.old.store) (result, self.new.toggles) (bus_of W.Wire.tally S.Store.size S.Store.sectors S.Store.verdict wire.new reader.new.core reader.new.store) }
+        ensures performs { Performs (attaches self.old.toggles) (bus_of W.Wire S.Store wire.old reader.old) (result, self.new.toggles) (bus_of W.Wire S.Store wire.new reader.new) }
         ensures tag { self.new.tag ≡ self.old.tag }
     {
         reader.reset();
-        transfer(Address::Default, Request::SetAddress, wire, reader)?;
-        transfer(Address::Assigned, Request::Configure, wire, reader)?;
+        let mut bus = Bus { wire, reader };
+        bus.transfer(Address::Default, Request::SetAddress)?;
+        bus.transfer(Address::Assigned, Request::Configure)?;
         self.toggles = Toggles::fresh();
         Ok(())
     }
@@ -71,22 +69,13 @@ impl Host {
         wire: &mut W,
         reader: &mut Reader<S>,
     ) -> Result<(), Fault>
-        ensures performs { Performs (recovers self.old.toggles) (bus_of W.Wire.tally S.Store.size S.Store.sectors S.Store.verdict wire.old reader.old.core reader.old.store) (result, self.new.toggles) (bus_of W.Wire.tally S.Store.size S.Store.sectors S.Store.verdict wire.new reader.new.core reader.new.store) }
+        ensures performs { Performs (recovers self.old.toggles) (bus_of W.Wire S.Store wire.old reader.old) (result, self.new.toggles) (bus_of W.Wire S.Store wire.new reader.new) }
         ensures tag { self.new.tag ≡ self.old.tag }
     {
-        transfer(Address::Assigned, Request::ResetTransport, wire, reader)?;
-        transfer(
-            Address::Assigned,
-            Request::ClearHalt(Direction::Inward),
-            wire,
-            reader,
-        )?;
-        transfer(
-            Address::Assigned,
-            Request::ClearHalt(Direction::Outward),
-            wire,
-            reader,
-        )?;
+        let mut bus = Bus { wire, reader };
+        bus.transfer(Address::Assigned, Request::ResetTransport)?;
+        bus.transfer(Address::Assigned, Request::ClearHalt(DataDirection::In))?;
+        bus.transfer(Address::Assigned, Request::ClearHalt(DataDirection::Out))?;
         self.toggles = Toggles::fresh();
         Ok(())
     }

@@ -1,18 +1,16 @@
 // What the host makes of what it hears: the one place where an answer is judged.
-ghost use Rattle.std.specs.Prelude.{◌≡◌, ◌≤◌, length, take};
-ghost use Rattle.packet.specs.Reading.{heard};
+ghost use Rattle.std.specs.Prelude.{◌≡◌};
+ghost use Rattle.packet.specs.Reading.{reading};
 ghost use Rattle.packet.specs.Refusals.{refusal_number};
-ghost use Rattle.reader.specs.BulkEnds.{same_kind};
-ghost use Rattle.host.specs.Arrivals.{arrival_seen, AtMost64};
+ghost use Rattle.packet.specs.Kinds.{same_kind};
+ghost use Rattle.host.specs.Arrivals.{arrival_seen};
 ghost use Rattle.host.specs.Transactions.{cause_of};
 ghost use Rattle.host.specs.Tries.{reply_of, fits, fetch_data, fetch_of};
 
 use super::fault::Cause;
-use super::toggles::same;
-use packet::{DataKind, Handshake, Packet, Refusal};
-use reader::Body;
+use packet::{Body, DataKind, Handshake, Packet, Refusal, read};
 
-// The answer to data that were sent.
+// The answer to data that were sent: three outcomes, of which the host handles each in its own way.
 #[derive(Clone, Copy)]
 pub enum Reply {
     Acknowledged,
@@ -20,25 +18,7 @@ pub enum Reply {
     Failed(Cause),
 }
 
-// Which lengths of new data fit.
-#[derive(Clone, Copy)]
-pub enum Fit {
-    Any,
-    Exactly(usize),
-}
-
-impl Fit {
-    fn admits(self, body: &[u8]) -> bool
-        ensures { result ≡ fits self body.now }
-    {
-        match self {
-            Fit::Any => true,
-            Fit::Exactly(length) => body.len() == length,
-        }
-    }
-}
-
-// The answer to an IN: new data that fit, a repeat, STALL, or a failure.
+// The answer to an IN: new data that fit, a repeat, STALL, or a failure. The host handles each of the four in its own way.
 #[derive(Clone, Copy)]
 pub enum Arrival {
     New(Body),
@@ -52,67 +32,50 @@ fn cause_of(refusal: Refusal) -> Cause
 {
     match refusal {
         Refusal::NoBytes => Cause::Nothing,
-        Refusal::WrongComplement => Cause::Damaged,
-        Refusal::UnknownKind => Cause::Damaged,
-        Refusal::WrongLength => Cause::Damaged,
-        Refusal::TooWide => Cause::Damaged,
-        Refusal::WrongCheck => Cause::Damaged,
+        Refusal::WrongComplement
+        | Refusal::UnknownKind
+        | Refusal::WrongLength
+        | Refusal::TooWide
+        | Refusal::WrongCheck => Cause::Damaged,
     }
 }
 
-pub(crate) fn judge_reply(answer: Result<Packet<'_>, Refusal>) -> Reply
-    ensures { result ≡ reply_of (heard answer.entry) }
+pub(crate) fn judge_reply(heard: &[u8]) -> Reply
+    ensures { result ≡ reply_of (reading heard.now) }
 {
-    match answer {
+    match read(heard) {
         Err(refusal) => Reply::Failed(cause_of(refusal)),
-        Ok(Packet::Token { .. }) => Reply::Failed(Cause::Damaged),
-        Ok(Packet::Data { .. }) => Reply::Failed(Cause::Damaged),
+        Ok(Packet::Token { .. } | Packet::Data { .. }) => Reply::Failed(Cause::Damaged),
         Ok(Packet::Handshake(Handshake::Ack)) => Reply::Acknowledged,
         Ok(Packet::Handshake(Handshake::Nak)) => Reply::Failed(Cause::NotReady),
         Ok(Packet::Handshake(Handshake::Stall)) => Reply::Stalled,
     }
 }
 
-fn copied(bytes: &[u8]) -> Body
-    requires { length bytes.now ≤ 64 }
-    ensures { take result.length result.bytes ≡ bytes.now }
+// Data that came after an IN; those with the toggle that is not awaited are a repeat. New data fit if any number of bytes
+// does, or if they are as many as this.
+fn judge_data(kind: DataKind, body: Body, toggle: DataKind, length: Option<usize>) -> Arrival
+    ensures { arrival_seen result ≡ fetch_data (same_kind kind toggle) (fits length body) body }
 {
-    let length = bytes.len();
-    let mut body = Body {
-        bytes: [0; 64],
-        length,
-    };
-    body.bytes[0..length].copy_from_slice(bytes);
-    body
-}
-
-// Data that came after an IN; those with the toggle that is not awaited are a repeat.
-fn judge_data(kind: DataKind, body: &[u8], toggle: DataKind, fit: Fit) -> Arrival
-    requires { length body.now ≤ 64 }
-    ensures { arrival_seen result ≡ fetch_data (same_kind kind toggle) (fits fit body.now) body.now }
-{
-    if !same(kind, toggle) {
+    if kind != toggle {
         return Arrival::Repeat;
     }
-    if !fit.admits(body) {
-        return Arrival::Failed(Cause::Damaged);
+    if length.is_none_or(|length| body.as_slice().len() == length) {
+        Arrival::New(body)
+    } else {
+        Arrival::Failed(Cause::Damaged)
     }
-    Arrival::New(copied(body))
 }
 
-pub(crate) fn judge_arrival(
-    answer: Result<Packet<'_>, Refusal>,
-    toggle: DataKind,
-    fit: Fit,
-) -> Arrival
-    requires { AtMost64 (heard answer) }
-    ensures { arrival_seen result ≡ fetch_of toggle fit (heard answer.entry) }
+pub(crate) fn judge_arrival(heard: &[u8], toggle: DataKind, length: Option<usize>) -> Arrival
+    ensures { arrival_seen result ≡ fetch_of toggle length (reading heard.now) }
 {
-    match answer {
+    match read(heard) {
         Err(refusal) => Arrival::Failed(cause_of(refusal)),
-        Ok(Packet::Token { .. }) => Arrival::Failed(Cause::Damaged),
-        Ok(Packet::Data { kind, body }) => judge_data(kind, body, toggle, fit),
-        Ok(Packet::Handshake(Handshake::Ack)) => Arrival::Failed(Cause::Damaged),
+        Ok(Packet::Data { kind, body }) => judge_data(kind, Body::of(body), toggle, length),
+        Ok(Packet::Token { .. } | Packet::Handshake(Handshake::Ack)) => {
+            Arrival::Failed(Cause::Damaged)
+        }
         Ok(Packet::Handshake(Handshake::Nak)) => Arrival::Failed(Cause::NotReady),
         Ok(Packet::Handshake(Handshake::Stall)) => Arrival::Stalled,
     }

@@ -1,10 +1,9 @@
 // The pipes that the host uses, each by the token that begins a transaction on it.
-ghost use Rattle.std.specs.Prelude.{◌≡◌, true};
-ghost use Rattle.packet.specs.Building.{can_be_built};
+ghost use Rattle.std.specs.Prelude.{◌≡◌};
 ghost use Rattle.packet.specs.Parts.{parts};
 ghost use Rattle.host.specs.Pipes.{address_number, out_token, in_token};
 
-use packet::{Packet, TokenKind};
+use packet::{Packet, TokenKind, WellFormed};
 
 // The reader's address: the default one after a port reset, or the one that the host assigns.
 #[derive(Clone, Copy)]
@@ -39,25 +38,25 @@ pub enum InPipe {
 }
 
 impl OutPipe {
-    pub(crate) fn token<'a>(self) -> Packet<'a>
-        ensures is { parts result ≡ out_token self }
-        ensures built { can_be_built (parts result) ≡ true }
+    pub(crate) fn token<'a>(self) -> WellFormed<'a>
+        ensures { parts result.packet ≡ out_token self }
     {
-        match self {
+        let packet = match self {
             OutPipe::Setup(address) => Packet::token(TokenKind::Setup, address.number(), 0),
             OutPipe::Bulk => Packet::token(TokenKind::Out, Address::Assigned.number(), 2),
-        }
+        };
+        WellFormed { packet }
     }
 }
 
 impl InPipe {
-    pub(crate) fn token<'a>(self) -> Packet<'a>
-        ensures is { parts result ≡ in_token self }
-        ensures built { can_be_built (parts result) ≡ true }
+    pub(crate) fn token<'a>(self) -> WellFormed<'a>
+        ensures { parts result.packet ≡ in_token self }
     {
-        match self {
+        let packet = match self {
             InPipe::Control(address) => Packet::token(TokenKind::In, address.number(), 0),
             InPipe::Bulk => Packet::token(TokenKind::In, Address::Assigned.number(), 1),
-        }
+        };
+        WellFormed { packet }
     }
 }

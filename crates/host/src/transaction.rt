@@ -1,118 +1,87 @@
 // Transactions: a packet delivered to the reader or fetched from it, in at most three tries.
-ghost use Rattle.std.specs.Prelude.{◌≡◌, ◌≤◌, length};
 ghost use Rattle.packet.specs.Parts.{data_packet};
 ghost use Rattle.host.specs.declared.fault.Cause.TheVariants.{Nothing};
-ghost use Rattle.host.specs.Arrivals.{arrival_seen, body_bytes};
+ghost use Rattle.host.specs.Arrivals.{arrival_seen};
+ghost use Rattle.host.specs.Buses.{PerformsOver};
 ghost use Rattle.host.specs.Pipes.{out_token, in_token};
-ghost use Rattle.host.specs.Process.{Performs, bus_of};
 ghost use Rattle.host.specs.Tries.{ending_seen, tries_delivery, delivers, sends_ack, tries_fetch, fetches};
 
-use super::exchange::exchange;
+use super::bus::Bus;
 use super::fault::{Cause, TransactionFault};
-use super::judging::{Arrival, Fit, Reply, judge_arrival, judge_reply};
+use super::judging::{Arrival, Reply, judge_arrival, judge_reply};
 use super::pipe::{InPipe, OutPipe};
-use packet::{DataKind, Handshake, Packet, read};
-use reader::{Body, Reader};
+use packet::{Body, DataKind, Handshake, WellFormed};
 use store::Store;
 use wire::Wire;
 
 // A transaction is given up after so many failed tries in a row.
 const TRIES: u8 = 3;
 
-// How a transaction ended that was not given up.
-#[derive(Clone, Copy)]
-pub enum Transacted<T> {
-    Done(T),
-    Stalled,
-}
+// How a transaction ended that was not given up: with what came of it, or with STALL, which is None.
+pub(crate) type Transacted<T> = Result<Option<T>, TransactionFault>;
 
-// One try of sending data that follow a token.
-fn try_delivery<W: Wire, S: Store>(
-    pipe: OutPipe,
-    kind: DataKind,
-    body: &[u8],
-    wire: &mut W,
-    reader: &mut Reader<S>,
-) -> Reply
-    requires { length body.now ≤ 64 }
-    ensures { Performs (tries_delivery (out_token pipe) (data_packet kind body.now)) (bus_of W.Wire.tally S.Store.size S.Store.sectors S.Store.verdict wire.old reader.old.core reader.old.store) result (bus_of W.Wire.tally S.Store.size S.Store.sectors S.Store.verdict wire.new reader.new.core reader.new.store) }
-{
-    let mut heard = [0; 67];
-    exchange(pipe.token(), wire, reader, &mut heard);
-    let count = exchange(Packet::data(kind, body), wire, reader, &mut heard);
-    judge_reply(read(&heard[0..count]))
-}
+// Delivering and fetching go on by enums of their own, of three and of four outcomes, so that each has its own loop.
+impl<W: Wire, S: Store> Bus<'_, W, S> {
+    // One try of sending data that follow a token.
+    fn try_delivery(&mut self, pipe: OutPipe, kind: DataKind, body: &Body) -> Reply
+        ensures { PerformsOver W.Wire S.Store (tries_delivery (out_token pipe) (data_packet kind body.now)) self.old result self.new }
+    {
+        let mut heard = [0; 67];
+        self.exchange(pipe.token(), &mut heard);
+        let count = self.exchange(WellFormed::data(kind, body), &mut heard);
+        judge_reply(&heard[..count])
+    }
 
-// Data that follow a token are delivered.
-pub(crate) fn deliver<W: Wire, S: Store>(
-    pipe: OutPipe,
-    kind: DataKind,
-    body: &[u8],
-    wire: &mut W,
-    reader: &mut Reader<S>,
-) -> Result<Transacted<()>, TransactionFault>
-    requires { length body.now ≤ 64 }
-    ensures { Performs (delivers 3 (out_token pipe) (data_packet kind body.now) Nothing) (bus_of W.Wire.tally S.Store.size S.Store.sectors S.Store.verdict wire.old reader.old.core reader.old.store) (ending_seen (λ x. x) result) (bus_of W.Wire.tally S.Store.size S.Store.sectors S.Store.verdict wire.new reader.new.core reader.new.store) }
-{
-    let mut cause = Cause::Nothing;
-    for turn in 0..TRIES {
-        match try_delivery(pipe, kind, body, wire, reader) {
-            Reply::Acknowledged => return Ok(Transacted::Done(())),
-            Reply::Stalled => return Ok(Transacted::Stalled),
-            Reply::Failed(failed) => cause = failed,
+    // Data that follow a token are delivered.
+    pub(crate) fn deliver(&mut self, pipe: OutPipe, kind: DataKind, body: &Body) -> Transacted<()>
+        ensures { PerformsOver W.Wire S.Store (delivers 3 (out_token pipe) (data_packet kind body.now) Nothing) self.old (ending_seen result) self.new }
+    {
+        let mut cause = Cause::Nothing;
+        for _ in 0..TRIES {
+            match self.try_delivery(pipe, kind, body) {
+                Reply::Acknowledged => return Ok(Some(())),
+                Reply::Stalled => return Ok(None),
+                Reply::Failed(failed) => cause = failed,
+            }
         }
+        Err(TransactionFault { cause })
     }
-    Err(TransactionFault { cause })
-}
 
-// Sends ACK. The reader answers nothing to it.
-fn acknowledge<W: Wire, S: Store>(wire: &mut W, reader: &mut Reader<S>)
-    ensures { Performs sends_ack (bus_of W.Wire.tally S.Store.size S.Store.sectors S.Store.verdict wire.old reader.old.core reader.old.store) tt (bus_of W.Wire.tally S.Store.size S.Store.sectors S.Store.verdict wire.new reader.new.core reader.new.store) }
-{
-    let mut heard = [0; 67];
-    exchange(Packet::handshake(Handshake::Ack), wire, reader, &mut heard);
-}
-
-// One try of fetching data; new data and repeats are acknowledged.
-fn try_fetch<W: Wire, S: Store>(
-    pipe: InPipe,
-    toggle: DataKind,
-    fit: Fit,
-    wire: &mut W,
-    reader: &mut Reader<S>,
-) -> Arrival
-    ensures { Performs (tries_fetch (in_token pipe) toggle fit) (bus_of W.Wire.tally S.Store.size S.Store.sectors S.Store.verdict wire.old reader.old.core reader.old.store) (arrival_seen result) (bus_of W.Wire.tally S.Store.size S.Store.sectors S.Store.verdict wire.new reader.new.core reader.new.store) }
-{
-    let mut heard = [0; 67];
-    let count = exchange(pipe.token(), wire, reader, &mut heard);
-    let arrival = judge_arrival(read(&heard[0..count]), toggle, fit);
-    match arrival {
-        Arrival::New(_) => acknowledge(wire, reader),
-        Arrival::Repeat => acknowledge(wire, reader),
-        Arrival::Stalled => {}
-        Arrival::Failed(_) => {}
+    // Sends ACK. The reader answers nothing to it.
+    fn acknowledge(&mut self)
+        ensures { PerformsOver W.Wire S.Store sends_ack self.old tt self.new }
+    {
+        let mut heard = [0; 67];
+        self.exchange(WellFormed::handshake(Handshake::Ack), &mut heard);
     }
-    arrival
-}
 
-// Data are fetched.
-pub(crate) fn fetch<W: Wire, S: Store>(
-    pipe: InPipe,
-    toggle: DataKind,
-    fit: Fit,
-    wire: &mut W,
-    reader: &mut Reader<S>,
-) -> Result<Transacted<Body>, TransactionFault>
-    ensures { Performs (fetches 3 (in_token pipe) toggle fit Nothing) (bus_of W.Wire.tally S.Store.size S.Store.sectors S.Store.verdict wire.old reader.old.core reader.old.store) (ending_seen body_bytes result) (bus_of W.Wire.tally S.Store.size S.Store.sectors S.Store.verdict wire.new reader.new.core reader.new.store) }
-{
-    let mut cause = Cause::Nothing;
-    for turn in 0..TRIES {
-        match try_fetch(pipe, toggle, fit, wire, reader) {
-            Arrival::New(body) => return Ok(Transacted::Done(body)),
-            Arrival::Repeat => cause = Cause::Repeat,
-            Arrival::Stalled => return Ok(Transacted::Stalled),
-            Arrival::Failed(failed) => cause = failed,
+    // One try of fetching data; new data and repeats are acknowledged.
+    fn try_fetch(&mut self, pipe: InPipe, toggle: DataKind, length: Option<usize>) -> Arrival
+        ensures { PerformsOver W.Wire S.Store (tries_fetch (in_token pipe) toggle length) self.old (arrival_seen result) self.new }
+    {
+        let mut heard = [0; 67];
+        let count = self.exchange(pipe.token(), &mut heard);
+        let arrival = judge_arrival(&heard[..count], toggle, length);
+        match arrival {
+            Arrival::New(_) | Arrival::Repeat => self.acknowledge(),
+            Arrival::Stalled | Arrival::Failed(_) => {}
         }
+        arrival
     }
-    Err(TransactionFault { cause })
+
+    // Data are fetched: any number of bytes, or as many as this.
+    pub(crate) fn fetch(&mut self, pipe: InPipe, toggle: DataKind, length: Option<usize>) -> Transacted<Body>
+        ensures { PerformsOver W.Wire S.Store (fetches 3 (in_token pipe) toggle length Nothing) self.old (ending_seen result) self.new }
+    {
+        let mut cause = Cause::Nothing;
+        for _ in 0..TRIES {
+            match self.try_fetch(pipe, toggle, length) {
+                Arrival::New(body) => return Ok(Some(body)),
+                Arrival::Repeat => cause = Cause::Repeat,
+                Arrival::Stalled => return Ok(None),
+                Arrival::Failed(failed) => cause = failed,
+            }
+        }
+        Err(TransactionFault { cause })
+    }
 }

@@ -15,7 +15,7 @@ use Rattle.reader.specs.Disk.{Disk}
 use Rattle.reader.specs.Hears.{hears, awaits}
 use Rattle.reader.specs.State.{State, fresh}
 use Rattle.host.specs.declared.fault.Fault.{Fault}
-use Rattle.host.specs.declared.toggles.Toggles.{Toggles}
+use Rattle.transport.specs.declared.toggles.Toggles.{Toggles}
 use Rattle.host.specs.Faults.{tagged}
 use Rattle.host.specs.Process.{World, Process, done, bind, Runs}
 use Rattle.host.specs.Transfers.{Transferred, transfers, address_setup, configure_setup, settled, after_transfer}

@@ -3,14 +3,15 @@ use Rattle.std.proofs.Common.{◌≡◌, ℕ, ◌^◌, ◌<◌, ◌≤◌, List,
 use Rattle.std.proofs.lemmas.List.{take_all}
 use Rattle.reader.specs.declared.phase.Source.TheVariants.{Capacity as CapacityReply}
 use Rattle.reader.specs.Disk.{Disk}
-use Rattle.transport.specs.declared.blocks.DataDirection.TheVariants.{In as DataIn}
+use Rattle.transport.specs.declared.blocks.DataDirection.TheVariants.{In as DataIn, Out as DataOut}
 use Rattle.transport.specs.declared.commands.Command.TheVariants.{Capacity}
 use Rattle.transport.specs.Capacity.{capacity_bytes, capacity_of}
 use Rattle.transport.proofs.CapacityRoundTrip.{reading_a_built_capacity_returns_the_size}
+use Rattle.transport.specs.Toggles.{toggle_turned}
 use Rattle.host.specs.declared.command.Opened.{Opened}
 use Rattle.host.specs.declared.fault.Fault.{Fault}
-use Rattle.host.specs.declared.toggles.Toggles.{Toggles}
-use Rattle.host.specs.Commands.{ConductedIn, opens, opened_in, conducts_in, size_told, capacity_ended, outward_turned}
+use Rattle.transport.specs.declared.toggles.Toggles.{Toggles}
+use Rattle.host.specs.Commands.{ConductedIn, opens, opened_in, conducts_in, size_told, capacity_ended}
 use Rattle.host.specs.Process.{World, Runs, done}
 use Rattle.host_laws.specs.Commands.{Sized, passed, given_up, ACapacityIsTheSizeOrIsPaidFor}
 use Rattle.host_laws.specs.Deliveries.{world}
@@ -44,7 +45,7 @@ module _ (tag : ℕ) (t : Toggles) (d : Disk) (from : ℕ) (narrow : tag < 2 ^ 3
       → (c : ConductedIn) (w' : World) → Runs (opened_in (replicate 8 0) o) w c w' → Sized d from (capacity_ended tag c) w'
   goes_on o w (taken n x e h) c w' runs =
       ends n h c w'
-      (data_and_status tag CapacityReply d n 8 (omega (arith, eight_bytes d.size)) narrow (omega arith) (outward_turned t) (replicate 8 0) refl w (level n x e (omega arith)) c w' runs)
+      (data_and_status tag CapacityReply d n 8 (omega (arith, eight_bytes d.size)) narrow (omega arith) (toggle_turned DataOut t) (replicate 8 0) refl w (level n x e (omega arith)) c w' runs)
   goes_on o w (opening-given-up n s fault at h) c w' runs = stays (λ (y : ConductedIn). Sized d from (capacity_ended tag y)) _ w c w' runs (given_up n s fault t at h)
 
 pub a_capacity_is_the_size_or_is_paid_for : ACapacityIsTheSizeOrIsPaidFor

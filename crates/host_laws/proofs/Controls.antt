@@ -17,7 +17,6 @@ use Rattle.reader.specs.Hears.{hears, awaits, ignored}
 use Rattle.reader.specs.State.{State}
 use Rattle.host.specs.declared.fault.Cause.TheVariants.{Nothing as NoAnswer}
 use Rattle.host.specs.declared.fault.TransportFault.{TransportFault}
-use Rattle.host.specs.declared.judging.Fit.TheVariants.{Any}
 use Rattle.host.specs.Process.{World, Runs}
 use Rattle.host.specs.Transactions.{Ending}
 use Rattle.host.specs.Tries.{delivers, fetches}
@@ -121,8 +120,8 @@ module _ {address : ℕ} {setup : List ℕ} (c : Course address setup) (d : Disk
 
   setup_through : (from : ℕ) (e : Ending (Unit {0})) (u : World) → Delivered setting_up 3 from e u → (r : Transferred) (w : World) → Runs (setup_ended address e) u r w → Through from r w
   setup_through from e u (taken_once n x v l) r w q =
-      let h = halfway (fetches 3 (token In address 0) Data1 Any NoAnswer) reply_ended _ r w q in
-      reply_through from n l h.result h.between (failed_fetches_are_paid_for In address 0 Data1 d replying Any refl 3 NoAnswer n 0 _ (level x) h.result h.between h.first) r w h.second
+      let h = halfway (fetches 3 (token In address 0) Data1 None NoAnswer) reply_ended _ r w q in
+      reply_through from n l h.result h.between (failed_fetches_are_paid_for In address 0 Data1 d replying None refl 3 NoAnswer n 0 _ (level x) h.result h.between h.first) r w h.second
   setup_through from e u (not_taken n cause w' b l) r w q = rw (← q.0, ← q.1) (given_up n _ _ (setup_somewhere n w' b) l)
 
   pub through : (from : ℕ) (x : Expectation) (r : Transferred) (w : World) → Runs (transfers address setup) (world from (expecting x c.idle) d) r w → Through from r w

@@ -1,5 +1,5 @@
 -- Failed tries of fetching a packet are paid for by spoiled packets, or by an ACK that was spoiled before.
-use Rattle.std.proofs.Common.{◌≡◌, ℕ, zero, suc, ◌+◌, ◌≤◌, Bool, true, List, ap, ◌∙◌, subst, arith}
+use Rattle.std.proofs.Common.{◌≡◌, ℕ, zero, suc, ◌+◌, ◌≤◌, Bool, true, List, ap, ◌∙◌, subst, arith, Option}
 use Rattle.packet.specs.declared.kind.DataKind.{DataKind}
 use Rattle.packet.specs.declared.kind.Handshake.TheVariants.{Ack}
 use Rattle.packet.specs.declared.kind.TokenKind.{TokenKind}
@@ -14,7 +14,6 @@ use Rattle.store.specs.declared.answers.Verdict.{Verdict}
 use Rattle.wire.specs.Delivery.{Delivery, delivered, spoiled}
 use Rattle.host.specs.declared.fault.Cause.{Cause}
 use Rattle.host.specs.declared.fault.Cause.TheVariants.{Repeat}
-use Rattle.host.specs.declared.judging.Fit.{Fit}
 use Rattle.host.specs.Process.{World, Process, done, Runs, exchange, answered}
 use Rattle.host.specs.Transactions.{Ending, passed}
 use Rattle.host.specs.Tries.{fits, fetches, fetch_data, fetch_of, by_fetch}
@@ -22,7 +21,7 @@ use Rattle.host_laws.specs.Deliveries.{world}
 use Rattle.host_laws.specs.Fetches.{Waiting, Behind, Waits, level, level_sent, behind, ended, unended, Fetches, fetched, given_up, FailedFetchesArePaidFor, Halted, Unfetched, met_stall, given_up as refused-no-more, AHaltedEndpointSendsNothing}
 use Rattle.host_laws.proofs.Toggles.{same_as_itself, not_its_other}
 
-module _ (t : TokenKind) (address endpoint : ℕ) (toggle : DataKind) (fit : Fit) (d : Disk) where
+module _ (t : TokenKind) (address endpoint : ℕ) (toggle : DataKind) (fit : Option ℕ) (d : Disk) where
   abbrev Tries : ℕ → Cause → Process (Ending (List ℕ))
   Tries tries cause = fetches tries (token t address endpoint) toggle fit cause
 

@@ -5,9 +5,8 @@ use Rattle.reader.specs.declared.phase.Source.{Source}
 use Rattle.reader.specs.Disk.{Disk}
 use Rattle.reader.specs.Stages.{source_bytes}
 use Rattle.reader.specs.State.{State}
-use Rattle.host.specs.declared.command.Outcome.TheVariants.{Passed}
 use Rattle.host.specs.declared.fault.Fault.{Fault}
-use Rattle.host.specs.declared.toggles.Toggles.{Toggles}
+use Rattle.transport.specs.declared.toggles.Toggles.{Toggles}
 use Rattle.host.specs.Commands.{FetchedData, ConductedIn, Concluded, data_over, fetches_data, packet_count, concludes, then_concludes_in, with_buffer}
 use Rattle.host.specs.Process.{World, Runs, done, bind}
 use Rattle.host_laws.specs.Deliveries.{world}
@@ -19,7 +18,7 @@ use Rattle.host_laws.proofs.Statuses.{a_status_is_heard_or_is_paid_for}
 
 -- the buffer has the first bytes of the source, and the ends are in step; or the command was given up
 pub data Brought (source : Source) (d : Disk) (start total : ℕ) : ConductedIn → World → Type 0 where
-  brought : (n : ℕ) (s : State) (t : Toggles) (buffer : List ℕ) → start ≤ n → InStep t s → buffer ≡ take total (source_bytes d source) → Brought source d start total (Ok (Passed tt), t, buffer) (world n s d)
+  brought : (n : ℕ) (s : State) (t : Toggles) (buffer : List ℕ) → start ≤ n → InStep t s → buffer ≡ take total (source_bytes d source) → Brought source d start total (Ok (Ok tt), t, buffer) (world n s d)
   given_up : (n : ℕ) (s : State) (fault : Fault) (t : Toggles) (buffer : List ℕ) → length buffer ≡ total → Attached s → start + 3 ≤ n → Brought source d start total (Err fault, t, buffer) (world n s d)
 
 module _ (tag : ℕ) (source : Source) (d : Disk) (start total : ℕ) (enough : total ≤ length (source_bytes d source)) (narrow : tag < 2 ^ 32) (short : total < 2 ^ 32) where

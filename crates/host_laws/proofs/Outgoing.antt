@@ -10,7 +10,6 @@ use Rattle.reader.specs.declared.state.Expectation.{Expectation}
 use Rattle.reader.specs.declared.state.Expectation.TheVariants.{Nothing, BulkData}
 use Rattle.reader.specs.declared.state.Halts.{Halts}
 use Rattle.reader.specs.declared.state.Halts.TheVariants.{Each}
-use Rattle.reader.specs.declared.state.Toggles.{Toggles as Kinds}
 use Rattle.reader.specs.declared.state.Transfer.{Transfer}
 use Rattle.reader.specs.BulkEnds.{turned, taken_as}
 use Rattle.reader.specs.Control.{expecting}
@@ -22,16 +21,16 @@ use Rattle.store.specs.declared.answers.Verdict.TheVariants.{Taken, Locked, Full
 use Rattle.transport.specs.declared.blocks.DataDirection.TheVariants.{Out as DataOut}
 use Rattle.transport.specs.declared.statuses.Status.TheVariants.{Passed, Failed}
 use Rattle.transport.specs.declared.statuses.StatusBlock.{StatusBlock}
+use Rattle.transport.specs.Toggles.{toggle_freshened, toggle_turned}
 use Rattle.host.specs.declared.command.DataOver.{DataOver}
 use Rattle.host.specs.declared.fault.Cause.TheVariants.{Nothing as NoAnswer}
 use Rattle.host.specs.declared.fault.Fault.{Fault}
-use Rattle.host.specs.declared.toggles.Direction.TheVariants.{Outward}
-use Rattle.host.specs.declared.toggles.Toggles.{Toggles}
-use Rattle.host.specs.Commands.{data_over, data_delivered, data_stopped, delivers_data, outward_turned}
+use Rattle.transport.specs.declared.toggles.Toggles.{Toggles}
+use Rattle.host.specs.Commands.{data_over, data_delivered, data_stopped, delivers_data}
 use Rattle.host.specs.Process.{World, Runs, done, bind, written_on}
 use Rattle.host.specs.Transactions.{Ending}
 use Rattle.host.specs.Tries.{delivers}
-use Rattle.host.specs.Transfers.{Transferred, transfers, clears, cleared, clear_setup, freshened}
+use Rattle.host.specs.Transfers.{Transferred, transfers, clears, cleared, clear_setup}
 use Rattle.host_laws.specs.Commands.{Put, WhyFailed, not_taken}
 use Rattle.host_laws.specs.Deliveries.{world, Taking, Between, before, begun_only, after, Delivered, taken_once, given_up as undelivered, Stalling, Refused, met_stall, given_up as unrefused}
 use Rattle.host_laws.specs.InStep.{attached, Attached, at_address_1, bulk_at}
@@ -49,7 +48,7 @@ still_attached e s (at_address_1 x b _) = at_address_1 x b e
 
 -- a packet of data that the reader takes
 abbrev taking : (kind : DataKind) (body : List ℕ) (d : Disk) (x : Transfer) (sending : DataKind) (tag due left sector : ℕ) (come : List ℕ) (h : Halts) (p : Phase) (written : Written)
-    → take_data (record { sending = sending; receiving = turned kind }) (Each false false) d tag due left sector come body ≡ (bulk_at sending (turned kind) h p, written)
+    → take_data (record { data_in = sending; data_out = turned kind }) (Each false false) d tag due left sector come body ≡ (bulk_at sending (turned kind) h p, written)
     → Taking (token Out 1 2) kind body
 taking kind body d x sending tag due left sector come h p written e = record {
   disk = d;
@@ -66,7 +65,7 @@ taking kind body d x sending tag due left sector come h p written e = record {
 }
 
 -- a whole packet is taken, and so many packets are left
-module _ (t : Kinds) (h : Halts) (d : Disk) (tag sector p : ℕ) (come body whole : List ℕ) (full : length body ≡ 64) (joins : come ++ body ≡ whole) where
+module _ (t : Toggles) (h : Halts) (d : Disk) (tag sector p : ℕ) (come body whole : List ℕ) (full : length body ≡ 64) (joins : come ++ body ≡ whole) where
   packet_fits : take_data t h d tag (suc p * 64) (suc p * 64) sector come body ≡ come_so_far t h d tag (p * 64) (p * 64) sector whole
   packet_fits =
       let awaited : eqb (length body) (min 64 (suc p * 64)) ≡ true = eq-eqb _ _ (omega arith) in
@@ -94,9 +93,9 @@ module _ (tag first count : ℕ) (bytes : List ℕ) (d : Disk) where
   -- it refuses packets, for the write has failed; or none is left, and the write has passed or failed
   pub data Standing (t : Toggles) (from index : ℕ) : ℕ → World → Type 0 where
     receiving : {p : ℕ} (k j : ℕ) (x : Transfer) (e : Expectation) (d' : Disk) → j < 8 → index ≡ k * 8 + j → index + suc p ≡ count * 8 → first + count ≤ d.size → Put k first bytes d d'
-        → Standing t from index (suc p) (world from (attached x (bulk_at t.inward t.outward (Each false false) (data_out tag (suc p * 64) (suc p * 64) (first + k) (take (j * 64) (drop (k * 512) bytes)))) e) d')
+        → Standing t from index (suc p) (world from (attached x (bulk_at t.data_in t.data_out (Each false false) (data_out tag (suc p * 64) (suc p * 64) (first + k) (take (j * 64) (drop (k * 512) bytes)))) e) d')
     refusing : {p : ℕ} (k residue : ℕ) (x : Transfer) (e : Expectation) (d' : Disk) → residue + k * 512 ≡ count * 512 → Put k first bytes d d' → WhyFailed k first count bytes d d'
-        → Standing t from index (suc p) (world from (attached x (bulk_at t.inward t.outward (Each false true) (status (failed_status tag residue) false)) e) d')
+        → Standing t from index (suc p) (world from (attached x (bulk_at t.data_in t.data_out (Each false true) (status (failed_status tag residue) false)) e) d')
     passing : (x : Transfer) (e : Expectation) (d' : Disk) → first + count ≤ d.size → Put count first bytes d d'
         → Standing t from index 0 (world from (expecting e (with_status x t (passed_status tag))) d')
     failing : (k residue : ℕ) (x : Transfer) (e : Expectation) (d' : Disk) → residue + k * 512 ≡ count * 512 → Put k first bytes d d' → WhyFailed k first count bytes d d'
@@ -125,14 +124,14 @@ module _ (tag first count : ℕ) (bytes : List ℕ) (d : Disk) where
 
   -- a packet that is taken: whether it was or not, a leading run of the sectors is put, and after it the ends stand so
   record Step (t : Toggles) (p index : ℕ) (s : State) (d' : Disk) : Type 0 where
-    packet_taken : Taking (token Out 1 2) t.outward (packet_in index bytes)
+    packet_taken : Taking (token Out 1 2) t.data_out (packet_in index bytes)
     not_yet : (from : ℕ) (e : Expectation) → Between packet_taken from (world from (expecting e s) d')
     attached_before : Attached packet_taken.untaken
     attached_begun : Attached packet_taken.begun
     attached_after : Attached packet_taken.taken
     put_before : Leading packet_taken.disk
     put_after : (v : ℕ → List ℕ → Verdict) → Leading (written_on packet_taken.written v packet_taken.disk)
-    stands : (from : ℕ) (e : Expectation) (v : ℕ → List ℕ → Verdict) → Standing (outward_turned t) from (index + 1) p (world from (expecting e packet_taken.taken) (written_on packet_taken.written v packet_taken.disk))
+    stands : (from : ℕ) (e : Expectation) (v : ℕ → List ℕ → Verdict) → Standing (toggle_turned DataOut t) from (index + 1) p (world from (expecting e packet_taken.taken) (written_on packet_taken.written v packet_taken.disk))
 
   -- the write is given up between two tries of a packet
   leaves : (t : Toggles) (p index : ℕ) (o : State) (d' : Disk) (s : Step t p index o d') (from n : ℕ) (fault : Fault) (w : World) → from + 3 ≤ n → Between s.packet_taken n w → Sent from (Err fault, t) w
@@ -140,8 +139,8 @@ module _ (tag first count : ℕ) (bytes : List ℕ) (d : Disk) where
   leaves t p index o d' s from n fault w l (begun_only e) = given_up n _ fault t _ s.put_before.0 s.put_before.1 s.put_before.2 (still_attached e _ s.attached_begun) l
   leaves t p index o d' s from n fault w l (after e v) = given_up n _ fault t _ (s.put_after v).0 (s.put_after v).1 (s.put_after v).2 (still_attached e _ s.attached_after) l
 
-  steps : (t : Toggles) (p index : ℕ) (o : State) (d' : Disk) (s : Step t p index o d') (from : ℕ) → Later p (index + 1) (outward_turned t) → (ending : Ending (Unit {0})) (u : World) → Delivered s.packet_taken 3 from ending u
-      → (r : Result DataOver Fault × Toggles) (w' : World) → Runs (data_delivered index tag (length bytes) t (delivers_data p (index + 1) tag bytes (outward_turned t)) ending) u r w' → Sent from r w'
+  steps : (t : Toggles) (p index : ℕ) (o : State) (d' : Disk) (s : Step t p index o d') (from : ℕ) → Later p (index + 1) (toggle_turned DataOut t) → (ending : Ending (Unit {0})) (u : World) → Delivered s.packet_taken 3 from ending u
+      → (r : Result DataOver Fault × Toggles) (w' : World) → Runs (data_delivered index tag (length bytes) t (delivers_data p (index + 1) tag bytes (toggle_turned DataOut t)) ending) u r w' → Sent from r w'
   steps t p index o d' s from later ending u (taken_once n e v l) r w' run = sent_later from n r w' l (later n _ (s.stands n e v) r w' run)
   steps t p index o d' s from later ending u (undelivered n cause w b l) r w' run = rw (← run.0, ← run.1) (leaves t p index o d' s from n _ w l b)
 
@@ -152,16 +151,16 @@ module _ (tag first count : ℕ) (bytes : List ℕ) (d : Disk) (size : length by
   come = take (j * 64) (drop (k * 512) bytes)
 
   abbrev now : ℕ → State
-  now p = attached x (bulk_at t.inward t.outward (Each false false) (data_out tag (suc p * 64) (suc p * 64) (first + k) come)) Nothing
+  now p = attached x (bulk_at t.data_in t.data_out (Each false false) (data_out tag (suc p * 64) (suc p * 64) (first + k) come)) Nothing
 
   -- the packet is taken to this phase, with this sector written
   step_to : (p : ℕ) (h : Halts) (next : Phase) (written : Written)
-      → take_data (record { sending = t.inward; receiving = turned t.outward }) (Each false false) d' tag (suc p * 64) (suc p * 64) (first + k) come (packet_in index bytes) ≡ (bulk_at t.inward (turned t.outward) h next, written)
+      → take_data (record { data_in = t.data_in; data_out = turned t.data_out }) (Each false false) d' tag (suc p * 64) (suc p * 64) (first + k) come (packet_in index bytes) ≡ (bulk_at t.data_in (turned t.data_out) h next, written)
       → k ≤ count → ((v : ℕ → List ℕ → Verdict) → Leading tag first count bytes d (written_on written v d'))
-      → ((from : ℕ) (e : Expectation) (v : ℕ → List ℕ → Verdict) → Standing tag first count bytes d (outward_turned t) from (index + 1) p (world from (attached x (bulk_at t.inward (turned t.outward) h next) e) (written_on written v d')))
+      → ((from : ℕ) (e : Expectation) (v : ℕ → List ℕ → Verdict) → Standing tag first count bytes d (toggle_turned DataOut t) from (index + 1) p (world from (attached x (bulk_at t.data_in (turned t.data_out) h next) e) (written_on written v d')))
       → Step tag first count bytes d t p index (now p) d'
   step_to p h next written takes-so l leads stands-so = record {
-    packet_taken = taking t.outward (packet_in index bytes) d' x t.inward tag (suc p * 64) (suc p * 64) (first + k) come h next written takes-so;
+    packet_taken = taking t.data_out (packet_in index bytes) d' x t.data_in tag (suc p * 64) (suc p * 64) (first + k) come h next written takes-so;
     not_yet = λ _ e. before e;
     attached_before = at_address_1 _ _ _;
     attached_begun = at_address_1 _ _ _;
@@ -187,8 +186,8 @@ module _ (tag first count : ℕ) (bytes : List ℕ) (d : Disk) (size : length by
     joined = let all : suc j * 64 ≡ 512 = omega arith in packet_goes_on bytes index (omega arith) k j place ∙ rw all
 
     whole_with : (v : Verdict) → d'.verdict (first + k) (sector_in k bytes) ≡ v
-        → take_data (record { sending = t.inward; receiving = turned t.outward }) (Each false false) d' tag (suc p * 64) (suc p * 64) (first + k) come (packet_in index bytes)
-        ≡ sector_answered (record { sending = t.inward; receiving = turned t.outward }) (Each false false) tag (p * 64) (p * 64) (first + k) (sector_in k bytes) (Ok v)
+        → take_data (record { data_in = t.data_in; data_out = turned t.data_out }) (Each false false) d' tag (suc p * 64) (suc p * 64) (first + k) come (packet_in index bytes)
+        ≡ sector_answered (record { data_in = t.data_in; data_out = turned t.data_out }) (Each false false) tag (p * 64) (p * 64) (first + k) (sector_in k bytes) (Ok v)
     whole_with v says =
         sector_is_whole _ (Each false false) d' tag (first + k) p come (packet_in index bytes) (sector_in k bytes) (packet_length bytes index (omega arith)) joined
         (length-take-le _ _ (simp length-drop (omega arith))) (let same : d'.size ≡ d.size = holds.size in omega arith) v says
@@ -212,7 +211,7 @@ module _ (tag first count : ℕ) (bytes : List ℕ) (d : Disk) (size : length by
 
   -- one that is not taken stays due, and the write has failed; the endpoint halts if packets are left
   sector_not_taken : (p : ℕ) → index + suc p ≡ count * 8 → j ≡ 7 → (v : Verdict) → d'.verdict (first + k) (sector_in k bytes) ≡ v → (v ≡ Taken → ⊥)
-      → ((t' : Kinds) (h : Halts) (due left sector : ℕ) (whole : List ℕ) → sector_answered t' h tag due left sector whole (Ok v) ≡ (record { toggles = t'; halts = if_due due DataOut h; phase = status (failed_status tag (due + 512)) false }, None))
+      → ((t' : Toggles) (h : Halts) (due left sector : ℕ) (whole : List ℕ) → sector_answered t' h tag due left sector whole (Ok v) ≡ (record { toggles = t'; halts = if_due due DataOut h; phase = status (failed_status tag (due + 512)) false }, None))
       → Step tag first count bytes d t p index (now p) d'
   sector_not_taken zero sum last v says other answers =
       step_to zero (Each false false) (status (failed_status tag 512) false) None (whole_with zero sum last v says ∙ answers _ (Each false false) 0 0 (first + k) (sector_in k bytes))
@@ -236,43 +235,43 @@ module _ (tag first count : ℕ) (bytes : List ℕ) (d : Disk) (size : length by
 -- the write has failed with packets left: the next one meets STALL, and the halt is cleared
 module _ (tag first count : ℕ) (bytes : List ℕ) (d : Disk) (t : Toggles) (k residue : ℕ) (d' : Disk) (sum : residue + k * 512 ≡ count * 512) (holds : Put k first bytes d d') (why : WhyFailed k first count bytes d d') where
   abbrev halted : Bulk
-  halted = bulk_at t.inward t.outward (Each false true) (status (failed_status tag residue) false)
+  halted = bulk_at t.data_in t.data_out (Each false true) (status (failed_status tag residue) false)
 
   abbrev unhalted : Bulk
-  unhalted = bulk_at t.inward Data0 (Each false false) (status (failed_status tag residue) false)
+  unhalted = bulk_at t.data_in Data0 (Each false false) (status (failed_status tag residue) false)
 
-  abbrev stalling : (index : ℕ) → Transfer → Stalling (token Out 1 2) t.outward (packet_in index bytes)
-  stalling index x = record { disk = d'; halted = attached x halted Nothing; due = BulkData; token_heard = λ _. refl; refuses = cond-true _ _ _ (same_as_itself t.outward) }
+  abbrev stalling : (index : ℕ) → Transfer → Stalling (token Out 1 2) t.data_out (packet_in index bytes)
+  stalling index x = record { disk = d'; halted = attached x halted Nothing; due = BulkData; token_heard = λ _. refl; refuses = cond-true _ _ _ (same_as_itself t.data_out) }
 
-  is_cleared : (from : ℕ) (q : Transferred) (u : World) → Changed halted unhalted d' from q u → Sent tag first count bytes d from (data_stopped tag (length bytes) (cleared Outward t q)) u
-  is_cleared from q u (changed n x e l) = not_put n (freshened Outward t) x e d' k residue false l sum holds why
+  is_cleared : (from : ℕ) (q : Transferred) (u : World) → Changed halted unhalted d' from q u → Sent tag first count bytes d from (data_stopped tag (length bytes) (cleared DataOut t q)) u
+  is_cleared from q u (changed n x e l) = not_put n (toggle_freshened DataOut t) x e d' k residue false l sum holds why
   is_cleared from q u (unchanged n x e b fault _ l) = given_up n _ _ t d' k (omega arith) holds (at_address_1 x b e) l
 
   clears_the_halt : (from : ℕ) (x : Transfer) (e : Expectation) (r : Result DataOver Fault × Toggles) (w' : World)
-      → Runs (bind (clears Outward t) (λ q. done (data_stopped tag (length bytes) q))) (world from (attached x halted e) d') r w' → Sent tag first count bytes d from r w'
+      → Runs (bind (clears DataOut t) (λ q. done (data_stopped tag (length bytes) q))) (world from (attached x halted e) d') r w' → Sent tag first count bytes d from r w'
   clears_the_halt from x e r w' run =
-      let h = halfway (clears Outward t) (λ q. done (data_stopped tag (length bytes) q)) (world from (attached x halted e) d') r w' run in
-      let g = halfway (transfers 1 (clear_setup Outward)) (λ q. done (cleared Outward t q)) (world from (attached x halted e) d') h.result h.between h.first in
+      let h = halfway (clears DataOut t) (λ q. done (data_stopped tag (length bytes) q)) (world from (attached x halted e) d') r w' run in
+      let g = halfway (transfers 1 (clear_setup DataOut)) (λ q. done (cleared DataOut t q)) (world from (attached x halted e) d') h.result h.between h.first in
       stays (Sent tag first count bytes d from) _ _ r w' h.second
       (stays (λ q u. Sent tag first count bytes d from (data_stopped tag (length bytes) q) u) _ _ _ _ g.second
-      (is_cleared from _ _ (a_control_transfer_is_done_or_paid_for (clear_setup Outward) halted unhalted (clearing_outward _ _ _ _ _) d' from x e g.result g.between g.first)))
+      (is_cleared from _ _ (a_control_transfer_is_done_or_paid_for (clear_setup DataOut) halted unhalted (clearing_outward _ _ _ _ _) d' from x e g.result g.between g.first)))
 
   refuses_a_packet : (p index from : ℕ) (x : Transfer) (ending : Ending (Unit {0})) (u : World) → Refused (stalling index x) 3 from ending u
-      → (r : Result DataOver Fault × Toggles) (w' : World) → Runs (data_delivered index tag (length bytes) t (delivers_data p (index + 1) tag bytes (outward_turned t)) ending) u r w' → Sent tag first count bytes d from r w'
+      → (r : Result DataOver Fault × Toggles) (w' : World) → Runs (data_delivered index tag (length bytes) t (delivers_data p (index + 1) tag bytes (toggle_turned DataOut t)) ending) u r w' → Sent tag first count bytes d from r w'
   refuses_a_packet p index from x ending u (met_stall n e l) r w' run = sent_later tag first count bytes d from n r w' l (clears_the_halt n x e r w' run)
   refuses_a_packet p index from x ending u (unrefused n cause e l) r w' run = rw (← run.0, ← run.1) (given_up n _ _ t d' k (omega arith) holds (at_address_1 x halted e) l)
 
 module _ (tag first count : ℕ) (bytes : List ℕ) (d : Disk) (size : length bytes ≡ count * 512) where
-  sends_a_packet : (p index : ℕ) (t : Toggles) (from : ℕ) (w : World) → Standing tag first count bytes d t from index (suc p) w → Later tag first count bytes d p (index + 1) (outward_turned t)
+  sends_a_packet : (p index : ℕ) (t : Toggles) (from : ℕ) (w : World) → Standing tag first count bytes d t from index (suc p) w → Later tag first count bytes d p (index + 1) (toggle_turned DataOut t)
       → (r : Result DataOver Fault × Toggles) (w' : World) → Runs (delivers_data (suc p) index tag bytes t) w r w' → Sent tag first count bytes d from r w'
   sends_a_packet p index t from w (receiving k j x e d' h place sum fits holds) later r w' run =
       let s = receives_a_packet tag first count bytes d size fits t index k j x d' place holds p h sum in
-      let g = halfway (delivers 3 (token Out 1 2) (data_packet t.outward (packet_in index bytes)) NoAnswer) (data_delivered index tag (length bytes) t (delivers_data p (index + 1) tag bytes (outward_turned t))) w r w' run in
-      steps tag first count bytes d t p index _ d' s from later g.result g.between (failed_deliveries_are_paid_for Out 1 2 t.outward (packet_in index bytes) s.packet_taken 3 NoAnswer from w (s.not_yet from e) g.result g.between g.first) r w' g.second
+      let g = halfway (delivers 3 (token Out 1 2) (data_packet t.data_out (packet_in index bytes)) NoAnswer) (data_delivered index tag (length bytes) t (delivers_data p (index + 1) tag bytes (toggle_turned DataOut t))) w r w' run in
+      steps tag first count bytes d t p index _ d' s from later g.result g.between (failed_deliveries_are_paid_for Out 1 2 t.data_out (packet_in index bytes) s.packet_taken 3 NoAnswer from w (s.not_yet from e) g.result g.between g.first) r w' g.second
   sends_a_packet p index t from w (refusing k residue x e d' sum holds why) later r w' run =
-      let g = halfway (delivers 3 (token Out 1 2) (data_packet t.outward (packet_in index bytes)) NoAnswer) (data_delivered index tag (length bytes) t (delivers_data p (index + 1) tag bytes (outward_turned t))) w r w' run in
+      let g = halfway (delivers 3 (token Out 1 2) (data_packet t.data_out (packet_in index bytes)) NoAnswer) (data_delivered index tag (length bytes) t (delivers_data p (index + 1) tag bytes (toggle_turned DataOut t))) w r w' run in
       refuses_a_packet tag first count bytes d t k residue d' sum holds why p index from x g.result g.between
-      (a_halted_endpoint_refuses_data Out 1 2 t.outward (packet_in index bytes) (stalling tag first count bytes d t k residue d' sum holds why index x) 3 NoAnswer from e g.result g.between g.first) r w' g.second
+      (a_halted_endpoint_refuses_data Out 1 2 t.data_out (packet_in index bytes) (stalling tag first count bytes d t k residue d' sum holds why index x) 3 NoAnswer from e g.result g.between g.first) r w' g.second
 
   sends_none : (index : ℕ) (t : Toggles) (from : ℕ) (w : World) → Standing tag first count bytes d t from index 0 w → Sent tag first count bytes d from (Ok (data_over tag (length bytes) true), t) w
   sends_none index t from w (passing x e d' fits holds) = put from t x e d' (omega arith) fits holds
@@ -280,4 +279,4 @@ module _ (tag first count : ℕ) (bytes : List ℕ) (d : Disk) (size : length by
 
   pub data_are_sent_or_paid_for : (p index : ℕ) (t : Toggles) → Later tag first count bytes d p index t
   data_are_sent_or_paid_for zero index t from w s r w' run = stays (Sent tag first count bytes d from) _ _ r w' run (sends_none index t from w s)
-  data_are_sent_or_paid_for (suc p) index t from w s r w' run = sends_a_packet p index t from w s (data_are_sent_or_paid_for p (index + 1) (outward_turned t)) r w' run
+  data_are_sent_or_paid_for (suc p) index t from w s r w' run = sends_a_packet p index t from w s (data_are_sent_or_paid_for p (index + 1) (toggle_turned DataOut t)) r w' run

@@ -12,8 +12,7 @@ use Rattle.reader.specs.Disk.{Disk}
 use Rattle.reader.specs.State.{Bulk, Phase, command}
 use Rattle.transport.specs.declared.blocks.DataDirection.TheVariants.{In, Out}
 use Rattle.host.specs.declared.fault.Fault.{Fault}
-use Rattle.host.specs.declared.toggles.Direction.TheVariants.{Inward, Outward}
-use Rattle.host.specs.declared.toggles.Toggles.{Toggles}
+use Rattle.transport.specs.declared.toggles.Toggles.{Toggles}
 use Rattle.host.specs.Process.{World, Process, done, bind, Runs}
 use Rattle.host.specs.Transfers.{Transferred, transfers, reset_setup, clear_setup, settled, after_transfer, recovers}
 use Rattle.host_laws.specs.Deliveries.{world}
@@ -25,10 +24,10 @@ use Rattle.host_laws.proofs.Transfers.{a_control_transfer_is_done_or_paid_for}
 pub resetting : (b : Bulk) → Changing reset_setup b (transport_reset b)
 resetting b = record { request = ResetTransport; whole = refl; asks = refl; changes = λ e. refl }
 
-pub clearing_inward : (s r : DataKind) (i o : Bool) (p : Phase) → Changing (clear_setup Inward) (bulk_at s r (Each i o) p) (bulk_at Data0 r (Each false o) p)
+pub clearing_inward : (s r : DataKind) (i o : Bool) (p : Phase) → Changing (clear_setup In) (bulk_at s r (Each i o) p) (bulk_at Data0 r (Each false o) p)
 clearing_inward s r i o p = record { request = ClearHalt In; whole = refl; asks = refl; changes = λ e. refl }
 
-pub clearing_outward : (s r : DataKind) (i o : Bool) (p : Phase) → Changing (clear_setup Outward) (bulk_at s r (Each i o) p) (bulk_at s Data0 (Each i false) p)
+pub clearing_outward : (s r : DataKind) (i o : Bool) (p : Phase) → Changing (clear_setup Out) (bulk_at s r (Each i o) p) (bulk_at s Data0 (Each i false) p)
 clearing_outward s r i o p = record { request = ClearHalt Out; whole = refl; asks = refl; changes = λ e. refl }
 
 abbrev Recovered : Type 0
@@ -49,22 +48,22 @@ last_step t d start from l c w' r w (given_up n x e b'' fault s h) q = rw (← q
 
 -- what is left of recovering after its first transfer, and after its second
 abbrev ClearsOutward : Toggles → Process Recovered
-ClearsOutward t = bind (transfers 1 (clear_setup Outward)) (λ r. done (settled t r))
+ClearsOutward t = bind (transfers 1 (clear_setup Out)) (λ r. done (settled t r))
 
 abbrev ClearsBoth : Toggles → Process Recovered
-ClearsBoth t = bind (transfers 1 (clear_setup Inward)) (after_transfer (settled t) (ClearsOutward t))
+ClearsBoth t = bind (transfers 1 (clear_setup In)) (after_transfer (settled t) (ClearsOutward t))
 
 module _ (t : Toggles) (d : Disk) (start : ℕ) (c : Recovered) (w' : World) where
   clears_outward : (r : DataKind) (o : Bool) (n : ℕ) (x : Transfer) (e : Expectation) → start ≤ n
       → Runs (ClearsOutward t) (world n (attached x (bulk_at Data0 r (Each false o) command) e) d) c w' → Recovering d start c w'
   clears_outward r o n x e l q =
-      let h = halfway (transfers 1 (clear_setup Outward)) (λ y. done (settled t y)) (world n (attached x (bulk_at Data0 r (Each false o) command) e) d) c w' q in
+      let h = halfway (transfers 1 (clear_setup Out)) (λ y. done (settled t y)) (world n (attached x (bulk_at Data0 r (Each false o) command) e) d) c w' q in
       last_step t d start n l c w' h.result h.between (a_control_transfer_is_done_or_paid_for _ _ _ (clearing_outward Data0 r false o command) d n x e h.result h.between h.first) h.second
 
   clears_both : (s r : DataKind) (i o : Bool) (n : ℕ) (x : Transfer) (e : Expectation) → start ≤ n
       → Runs (ClearsBoth t) (world n (attached x (bulk_at s r (Each i o) command) e) d) c w' → Recovering d start c w'
   clears_both s r i o n x e l q =
-      let h = halfway (transfers 1 (clear_setup Inward)) (after_transfer (settled t) (ClearsOutward t)) (world n (attached x (bulk_at s r (Each i o) command) e) d) c w' q in
+      let h = halfway (transfers 1 (clear_setup In)) (after_transfer (settled t) (ClearsOutward t)) (world n (attached x (bulk_at s r (Each i o) command) e) d) c w' q in
       step t d start n l (ClearsOutward t) c w' (clears_outward r o) h.result h.between (a_control_transfer_is_done_or_paid_for _ _ _ (clearing_inward s r i o command) d n x e h.result h.between h.first) h.second
 
   -- after the transport's reset every halt can be cleared
@@ -76,7 +75,7 @@ module _ (t : Toggles) (d : Disk) (start : ℕ) (c : Recovered) (w' : World) whe
 recovers_attached : (t : Toggles) (d : Disk) (from : ℕ) (x : Transfer) (b : Bulk) (e : Expectation) (c : Recovered) (w' : World) → Runs (recovers t) (world from (attached x b e) d) c w' → Recovering d from c w'
 recovers_attached t d from x b e c w' q =
     let h = halfway (transfers 1 reset_setup) (after_transfer (settled t) (ClearsBoth t)) (world from (attached x b e) d) c w' q in
-    step t d from from (omega arith) (ClearsBoth t) c w' (clears_kept t d from c w' b.toggles.sending b.toggles.receiving b.halts) h.result h.between
+    step t d from from (omega arith) (ClearsBoth t) c w' (clears_kept t d from c w' b.toggles.data_in b.toggles.data_out b.halts) h.result h.between
     (a_control_transfer_is_done_or_paid_for _ _ _ (resetting b) d from x e h.result h.between h.first) h.second
 
 pub recovering_puts_the_ends_in_step : RecoveringPutsTheEndsInStep

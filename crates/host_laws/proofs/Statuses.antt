@@ -1,5 +1,5 @@
 -- A status is heard as it was made, or three packets at least were spoiled.
-use Rattle.std.proofs.Common.{◌≡◌, ℕ, ◌+◌, ◌^◌, ◌<◌, ◌≤◌, true, false, List, Ok, Err, Result, sym, refl, subst, arith}
+use Rattle.std.proofs.Common.{◌≡◌, ℕ, ◌+◌, ◌^◌, ◌<◌, ◌≤◌, true, false, List, Ok, Err, Result, sym, refl, subst, arith, None}
 use Rattle.packet.specs.declared.kind.DataKind.{DataKind}
 use Rattle.packet.specs.declared.kind.TokenKind.TheVariants.{In}
 use Rattle.packet.specs.Parts.{token}
@@ -13,13 +13,13 @@ use Rattle.transport.specs.declared.refusals.TransportRefusal.{TransportRefusal}
 use Rattle.transport.specs.declared.statuses.StatusBlock.{StatusBlock}
 use Rattle.transport.specs.Statuses.{status_bytes, status_read}
 use Rattle.transport.proofs.StatusRoundTrip.{reading_a_built_status_block_returns_it}
+use Rattle.transport.specs.declared.blocks.DataDirection.TheVariants.{In as DataIn}
+use Rattle.transport.specs.Toggles.{toggle_turned}
 use Rattle.host.specs.declared.command.DataOver.{DataOver}
 use Rattle.host.specs.declared.fault.Cause.TheVariants.{Nothing as NoAnswer}
 use Rattle.host.specs.declared.fault.Fault.{Fault}
-use Rattle.host.specs.declared.judging.Fit.TheVariants.{Any}
-use Rattle.host.specs.declared.toggles.Direction.TheVariants.{Inward}
-use Rattle.host.specs.declared.toggles.Toggles.{Toggles}
-use Rattle.host.specs.Commands.{Concluded, concludes, concludes_now, status_fetched, status_again, status_heard, in_command, inward_turned}
+use Rattle.transport.specs.declared.toggles.Toggles.{Toggles}
+use Rattle.host.specs.Commands.{Concluded, concludes, concludes_now, status_fetched, status_again, status_heard, in_command}
 use Rattle.host.specs.Process.{World, Process, Runs, bind}
 use Rattle.host.specs.Transactions.{Ending}
 use Rattle.host.specs.Tries.{fetches}
@@ -40,13 +40,13 @@ read_back o b same narrow less short =
 module _ (o : DataOver) (b : StatusBlock) (t : Toggles) (d : Disk) (start : ℕ) (x : Transfer) where
   -- the status once it has been sent, and when it is acknowledged
   abbrev sent_status : State
-  sent_status = attached x (bulk_at t.inward t.outward (Each false false) (status b true)) Nothing
+  sent_status = attached x (bulk_at t.data_in t.data_out (Each false false) (status b true)) Nothing
 
-  abbrev waiting_status : Waiting (token In 1 1) t.inward d
+  abbrev waiting_status : Waiting (token In 1 1) t.data_in d
   waiting_status = record {
     unsent = with_status x t b;
     sent = sent_status;
-    acknowledged = attached x (bulk_at (turned t.inward) t.outward (Each false false) command) Nothing;
+    acknowledged = attached x (bulk_at (turned t.data_in) t.data_out (Each false false) command) Nothing;
     owed = BulkAck;
     body = status_bytes b;
     offers = λ e. refl;
@@ -60,27 +60,27 @@ module _ (o : DataOver) (b : StatusBlock) (t : Toggles) (d : Disk) (start : ℕ)
   still_attached n later w (behind k e) fault t' h = concluding-given-up n _ fault t' (attached_whatever_is_expected e (was_attached k.old x _ Nothing k.follows)) h
 
   -- a status that was fetched leaves the ends in step, whether its ACK came through or not
-  in_step_again : (n later : ℕ) (w : World) → Fetched waiting_status n later w → start ≤ n → Concluding o b t d start (in_command o.tag (status_heard o.whole (Ok b)), inward_turned t) w
+  in_step_again : (n later : ℕ) (w : World) → Fetched waiting_status n later w → start ≤ n → Concluding o b t d start (in_command o.tag (status_heard o.whole (Ok b)), toggle_turned DataIn t) w
   in_step_again n later w (ended e) h = concluded n _ h (awaiting x e)
   in_step_again n later w (unended e) h =
       concluded n _ h
-      (subst (λ (k : DataKind). InStep (inward_turned t) (attached x (bulk_at k t.outward (Each false false) (status b true)) e)) (turned_twice t.inward) (unacknowledged x e b))
+      (subst (λ (k : DataKind). InStep (toggle_turned DataIn t) (attached x (bulk_at k t.data_out (Each false false) (status b true)) e)) (turned_twice t.data_in) (unacknowledged x e b))
 
   concluding : (met_stall : Process Concluded) (from pending : ℕ) → start + pending ≤ from → status_read (status_bytes b) o.tag o.length ≡ Ok b
       → (e : Ending (List ℕ)) (w : World) → Fetches waiting_status 3 from pending e w → (r : Concluded) (w' : World) → Runs (status_fetched o t met_stall e) w r w' → Concluding o b t d start r w'
   concluding met_stall from pending paid reads e w (fetched n later u f since h) r w' runs =
       stays (Concluding o b t d start) _ u r w' runs
-      (subst (λ (y : Result StatusBlock TransportRefusal). Concluding o b t d start (in_command o.tag (status_heard o.whole y), inward_turned t) u) (sym reads) (in_step_again n later u f (omega arith)))
+      (subst (λ (y : Result StatusBlock TransportRefusal). Concluding o b t d start (in_command o.tag (status_heard o.whole y), toggle_turned DataIn t) u) (sym reads) (in_step_again n later u f (omega arith)))
   concluding met_stall from pending paid reads e w (given_up n later cause u k since h) r w' runs =
       stays (Concluding o b t d start) _ u r w' runs (still_attached n later u k _ t (omega arith))
 
   runs_to_concluding : (from pending : ℕ) → start + pending ≤ from → status_read (status_bytes b) o.tag o.length ≡ Ok b
       → (w : World) → Waits waiting_status from pending w → (r : Concluded) (w' : World) → Runs (concludes o t) w r w' → Concluding o b t d start r w'
   runs_to_concluding from pending paid reads w waits r w' runs =
-      let met_stall : Process Concluded = bind (clears Inward t) (status_again o.tag (concludes_now o)) in
-      let h = halfway (fetches 3 (token In 1 1) t.inward Any NoAnswer) (status_fetched o t met_stall) w r w' runs in
+      let met_stall : Process Concluded = bind (clears DataIn t) (status_again o.tag (concludes_now o)) in
+      let h = halfway (fetches 3 (token In 1 1) t.data_in None NoAnswer) (status_fetched o t met_stall) w r w' runs in
       concluding met_stall from pending paid reads h.result h.between
-      (failed_fetches_are_paid_for In 1 1 t.inward d waiting_status Any refl 3 NoAnswer from pending w waits h.result h.between h.first)
+      (failed_fetches_are_paid_for In 1 1 t.data_in d waiting_status None refl 3 NoAnswer from pending w waits h.result h.between h.first)
       r w' h.second
 
 pub a_status_is_heard_or_is_paid_for : AStatusIsHeardOrIsPaidFor

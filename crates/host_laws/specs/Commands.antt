@@ -4,18 +4,16 @@ use Rattle.std.specs.Prelude.{◌≡◌, ℕ, zero, suc, ◌+◌, ◌*◌, ◌^�
 use Rattle.reader.specs.Disk.{Disk, all_bytes}
 use Rattle.reader.specs.State.{State}
 use Rattle.store.specs.declared.answers.Verdict.TheVariants.{Taken}
-use Rattle.host.specs.declared.command.Outcome.{Outcome}
-use Rattle.host.specs.declared.command.Outcome.TheVariants.{Passed, Failed}
 use Rattle.host.specs.declared.fault.Fault.{Fault}
-use Rattle.host.specs.declared.toggles.Toggles.{Toggles}
-use Rattle.host.specs.Commands.{Concluded, ConductedIn, tests, asks_capacity, reads, writes}
+use Rattle.transport.specs.declared.toggles.Toggles.{Toggles}
+use Rattle.host.specs.Commands.{Outcome, command_failed, Concluded, ConductedIn, tests, asks_capacity, reads, writes}
 use Rattle.host.specs.Process.{World, Runs}
 use Rattle.host_laws.specs.Deliveries.{world}
 use Rattle.host_laws.specs.InStep.{Attached, InStep, Sound}
 
 -- a test passes, and leaves the disk alone
 pub data Tested (d : Disk) (from : ℕ) : Concluded → World → Type 0 where
-  passed : (n : ℕ) (s : State) (t : Toggles) → from ≤ n → InStep t s → Tested d from (Ok (Passed tt), t) (world n s d)
+  passed : (n : ℕ) (s : State) (t : Toggles) → from ≤ n → InStep t s → Tested d from (Ok (Ok tt), t) (world n s d)
   given_up : (n : ℕ) (s : State) (fault : Fault) (t : Toggles) → Attached s → from + 3 ≤ n → Tested d from (Err fault, t) (world n s d)
 
 abbrev pub ATestPassesOrIsPaidFor : Type 0
@@ -25,7 +23,7 @@ ATestPassesOrIsPaidFor =
 
 -- a capacity passes with the disk's size
 pub data Sized (d : Disk) (from : ℕ) : Result (Outcome ℕ) Fault × Toggles → World → Type 0 where
-  passed : (n : ℕ) (s : State) (t : Toggles) → from ≤ n → InStep t s → Sized d from (Ok (Passed d.size), t) (world n s d)
+  passed : (n : ℕ) (s : State) (t : Toggles) → from ≤ n → InStep t s → Sized d from (Ok (Ok d.size), t) (world n s d)
   given_up : (n : ℕ) (s : State) (fault : Fault) (t : Toggles) → Attached s → from + 3 ≤ n → Sized d from (Err fault, t) (world n s d)
 
 abbrev pub ACapacityIsTheSizeOrIsPaidFor : Type 0
@@ -36,9 +34,9 @@ ACapacityIsTheSizeOrIsPaidFor =
 -- a read passes with the bytes of its sectors, or fails because it reaches past the size
 pub data HasRead (sector count : ℕ) (d : Disk) (from : ℕ) : ConductedIn → World → Type 0 where
   passed : (n : ℕ) (s : State) (t : Toggles) → from ≤ n → InStep t s → sector + count ≤ d.size
-      → HasRead sector count d from (Ok (Passed tt), t, all_bytes (take count (drop sector d.sectors))) (world n s d)
+      → HasRead sector count d from (Ok (Ok tt), t, all_bytes (take count (drop sector d.sectors))) (world n s d)
   failed : (n : ℕ) (s : State) (t : Toggles) (buffer : List ℕ) → from ≤ n → InStep t s → d.size < sector + count
-      → HasRead sector count d from (Ok (Failed (count * 512)), t, buffer) (world n s d)
+      → HasRead sector count d from (Ok (Err (command_failed (count * 512))), t, buffer) (world n s d)
   given_up : (n : ℕ) (s : State) (fault : Fault) (t : Toggles) (buffer : List ℕ) → length buffer ≡ count * 512 → Attached s → from + 3 ≤ n → HasRead sector count d from (Err fault, t, buffer) (world n s d)
 
 abbrev pub AReadHasTheSectorsOrIsPaidFor : Type 0
@@ -69,9 +67,9 @@ pub data WhyFailed (k sector count : ℕ) (bytes : List ℕ) (d d' : Disk) : Typ
 -- a write passes with all its sectors put, fails with so many of the first, or is given up with a leading run of them
 pub data HasWritten (sector count : ℕ) (bytes : List ℕ) (d : Disk) (from : ℕ) : Concluded → World → Type 0 where
   passed : (n : ℕ) (s : State) (t : Toggles) (d' : Disk) → from ≤ n → InStep t s → sector + count ≤ d.size → Put count sector bytes d d'
-      → HasWritten sector count bytes d from (Ok (Passed tt), t) (world n s d')
+      → HasWritten sector count bytes d from (Ok (Ok tt), t) (world n s d')
   failed : (n : ℕ) (s : State) (t : Toggles) (d' : Disk) (k residue : ℕ) → from ≤ n → InStep t s → residue + k * 512 ≡ count * 512 → Put k sector bytes d d' → WhyFailed k sector count bytes d d'
-      → HasWritten sector count bytes d from (Ok (Failed residue), t) (world n s d')
+      → HasWritten sector count bytes d from (Ok (Err (command_failed residue)), t) (world n s d')
   given_up : (n : ℕ) (s : State) (fault : Fault) (t : Toggles) (d' : Disk) (k : ℕ) → k ≤ count → Put k sector bytes d d' → Attached s → from + 3 ≤ n
       → HasWritten sector count bytes d from (Err fault, t) (world n s d')
 

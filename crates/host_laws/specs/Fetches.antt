@@ -1,5 +1,5 @@
 -- A packet fetched from the reader: what is known of the reader between two tries, and what a run of tries comes to.
-use Rattle.std.specs.Prelude.{◌≡◌, ℕ, ◌+◌, ◌≤◌, true, List}
+use Rattle.std.specs.Prelude.{◌≡◌, ℕ, ◌+◌, ◌≤◌, true, List, Option}
 use Rattle.packet.specs.declared.kind.DataKind.{DataKind}
 use Rattle.packet.specs.declared.kind.Handshake.TheVariants.{Ack}
 use Rattle.packet.specs.declared.kind.TokenKind.{TokenKind}
@@ -14,7 +14,6 @@ use Rattle.reader.specs.Disk.{Disk}
 use Rattle.reader.specs.Hears.{hears}
 use Rattle.reader.specs.State.{State}
 use Rattle.host.specs.declared.fault.Cause.{Cause}
-use Rattle.host.specs.declared.judging.Fit.{Fit}
 use Rattle.host.specs.Process.{World, Runs}
 use Rattle.host.specs.Transactions.{Ending, passed, stalled, gave_up}
 use Rattle.host.specs.Tries.{fits, fetches}
@@ -57,7 +56,7 @@ module _ {head : Parts} {toggle : DataKind} {d : Disk} (k : Waiting head toggle 
 
 abbrev pub FailedFetchesArePaidFor : Type 0
 FailedFetchesArePaidFor =
-    (t : TokenKind) (address endpoint : ℕ) (toggle : DataKind) (d : Disk) (k : Waiting (token t address endpoint) toggle d) (fit : Fit) → fits fit k.body ≡ true
+    (t : TokenKind) (address endpoint : ℕ) (toggle : DataKind) (d : Disk) (k : Waiting (token t address endpoint) toggle d) (fit : Option ℕ) → fits fit k.body ≡ true
     → (tries : ℕ) (cause : Cause) (from pending : ℕ) (w : World) → Waits k from pending w
     → (e : Ending (List ℕ)) (w' : World) → Runs (fetches tries (token t address endpoint) toggle fit cause) w e w' → Fetches k tries from pending e w'
 
@@ -73,5 +72,5 @@ module _ {head : Parts} {d : Disk} (k : Halted head d) where
 
 abbrev pub AHaltedEndpointSendsNothing : Type 0
 AHaltedEndpointSendsNothing =
-    (t : TokenKind) (address endpoint : ℕ) (toggle : DataKind) (d : Disk) (k : Halted (token t address endpoint) d) (fit : Fit) (tries : ℕ) (cause : Cause) (from : ℕ) (x : Expectation)
+    (t : TokenKind) (address endpoint : ℕ) (toggle : DataKind) (d : Disk) (k : Halted (token t address endpoint) d) (fit : Option ℕ) (tries : ℕ) (cause : Cause) (from : ℕ) (x : Expectation)
     → (e : Ending (List ℕ)) (w' : World) → Runs (fetches tries (token t address endpoint) toggle fit cause) (world from (expecting x k.halted) d) e w' → Unfetched k tries from e w'

@@ -10,7 +10,7 @@ use Rattle.reader.specs.BulkEnds.{turned}
 use Rattle.reader.specs.Disk.{Disk}
 use Rattle.reader.specs.State.{State, Bulk, Phase, command, status}
 use Rattle.transport.specs.declared.statuses.StatusBlock.{StatusBlock}
-use Rattle.host.specs.declared.toggles.Toggles.{Toggles}
+use Rattle.transport.specs.declared.toggles.Toggles.{Toggles}
 
 -- a reader at address 1, hearing no other, configured
 abbrev pub attached : Transfer → Bulk → Expectation → State
@@ -20,13 +20,13 @@ pub data Attached : State → Type 0 where
   at_address_1 : (x : Transfer) (b : Bulk) (e : Expectation) → Attached (attached x b e)
 
 abbrev pub bulk_at : (sending receiving : DataKind) → Halts → Phase → Bulk
-bulk_at sending receiving h p = record { toggles = record { sending = sending; receiving = receiving }; halts = h; phase = p }
+bulk_at sending receiving h p = record { toggles = record { data_in = sending; data_out = receiving }; halts = h; phase = p }
 
 -- the ends are in step: no halt, and either the toggles are equal and the reader awaits a block, or a status was sent and
 -- has had no ACK, and only the toggles of the data to the host are opposite
 pub data InStep (t : Toggles) : State → Type 0 where
-  awaiting : (x : Transfer) (e : Expectation) → InStep t (attached x (bulk_at t.inward t.outward (Each false false) command) e)
-  unacknowledged : (x : Transfer) (e : Expectation) (b : StatusBlock) → InStep t (attached x (bulk_at (turned t.inward) t.outward (Each false false) (status b true)) e)
+  awaiting : (x : Transfer) (e : Expectation) → InStep t (attached x (bulk_at t.data_in t.data_out (Each false false) command) e)
+  unacknowledged : (x : Transfer) (e : Expectation) (b : StatusBlock) → InStep t (attached x (bulk_at (turned t.data_in) t.data_out (Each false false) (status b true)) e)
 
 -- what holds of the meaning of every store
 pub record Sound (d : Disk) : Type 0 where

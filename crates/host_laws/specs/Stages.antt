@@ -15,11 +15,13 @@ use Rattle.transport.specs.declared.blocks.DataDirection.{DataDirection}
 use Rattle.transport.specs.declared.commands.Command.{Command}
 use Rattle.transport.specs.declared.statuses.StatusBlock.{StatusBlock}
 use Rattle.transport.specs.Promises.{CommandFits}
+use Rattle.transport.specs.declared.blocks.DataDirection.TheVariants.{In as DataIn, Out as DataOut}
+use Rattle.transport.specs.Toggles.{toggle_turned}
 use Rattle.host.specs.declared.command.DataOver.{DataOver}
 use Rattle.host.specs.declared.command.Opened.{Opened}
 use Rattle.host.specs.declared.fault.Fault.{Fault}
-use Rattle.host.specs.declared.toggles.Toggles.{Toggles}
-use Rattle.host.specs.Commands.{Concluded, block_of, open_command, opens, concludes, in_command, status_heard, inward_turned, outward_turned}
+use Rattle.transport.specs.declared.toggles.Toggles.{Toggles}
+use Rattle.host.specs.Commands.{Concluded, block_of, open_command, opens, concludes, in_command, status_heard}
 use Rattle.host.specs.Process.{World, Runs}
 use Rattle.host_laws.specs.Deliveries.{world}
 use Rattle.host_laws.specs.Fetches.{Waiting}
@@ -27,10 +29,10 @@ use Rattle.host_laws.specs.InStep.{attached, Attached, bulk_at, InStep}
 
 -- the bulk endpoints when the reader has taken a block
 abbrev pub begun_with : (tag moves : ℕ) → DataDirection → Command → Toggles → Disk → Bulk
-begun_with tag moves way k t d = begin (record { sending = t.inward; receiving = turned t.outward }) (Each false false) (block_of tag moves way k) (plan_of (Some k) d.size)
+begun_with tag moves way k t d = begin (record { data_in = t.data_in; data_out = turned t.data_out }) (Each false false) (block_of tag moves way k) (plan_of (Some k) d.size)
 
 pub data Opening (tag moves : ℕ) (way : DataDirection) (k : Command) (t : Toggles) (d : Disk) (from : ℕ) : Result Opened Fault × Toggles → World → Type 0 where
-  taken : (n : ℕ) (x : Transfer) (e : Expectation) → from ≤ n → Opening tag moves way k t d from (Ok (open_command tag moves), outward_turned t) (world n (attached x (begun_with tag moves way k t d) e) d)
+  taken : (n : ℕ) (x : Transfer) (e : Expectation) → from ≤ n → Opening tag moves way k t d from (Ok (open_command tag moves), toggle_turned DataOut t) (world n (attached x (begun_with tag moves way k t d) e) d)
   given_up : (n : ℕ) (s : State) (fault : Fault) → Attached s → from + 3 ≤ n → Opening tag moves way k t d from (Err fault, t) (world n s d)
 
 abbrev pub ABlockIsTakenOrIsPaidFor : Type 0
@@ -40,15 +42,15 @@ ABlockIsTakenOrIsPaidFor =
 
 -- the reader with a status that waits and has not been sent
 abbrev pub with_status : Transfer → Toggles → StatusBlock → State
-with_status x t b = attached x (bulk_at t.inward t.outward (Each false false) (status b false)) Nothing
+with_status x t b = attached x (bulk_at t.data_in t.data_out (Each false false) (status b false)) Nothing
 
 -- a status waits; or the last packet of data, whose ACK was spoiled since the start, still does in its place
 pub data StatusWaits (t : Toggles) (b : StatusBlock) (d : Disk) (start : ℕ) : World → Type 0 where
   level : (from : ℕ) (x : Transfer) (e : Expectation) → start ≤ from → StatusWaits t b d start (world from (expecting e (with_status x t b)) d)
-  behind : (from : ℕ) (x : Transfer) (e : Expectation) (old : Waiting (token In 1 1) (turned t.inward) d) → old.acknowledged ≡ with_status x t b → Attached old.sent → start + 1 ≤ from → StatusWaits t b d start (world from (expecting e old.sent) d)
+  behind : (from : ℕ) (x : Transfer) (e : Expectation) (old : Waiting (token In 1 1) (turned t.data_in) d) → old.acknowledged ≡ with_status x t b → Attached old.sent → start + 1 ≤ from → StatusWaits t b d start (world from (expecting e old.sent) d)
 
 pub data Concluding (o : DataOver) (b : StatusBlock) (t : Toggles) (d : Disk) (start : ℕ) : Concluded → World → Type 0 where
-  concluded : (n : ℕ) (s : State) → start ≤ n → InStep (inward_turned t) s → Concluding o b t d start (in_command o.tag (status_heard o.whole (Ok b)), inward_turned t) (world n s d)
+  concluded : (n : ℕ) (s : State) → start ≤ n → InStep (toggle_turned DataIn t) s → Concluding o b t d start (in_command o.tag (status_heard o.whole (Ok b)), toggle_turned DataIn t) (world n s d)
   given_up : (n : ℕ) (s : State) (fault : Fault) (t' : Toggles) → Attached s → start + 3 ≤ n → Concluding o b t d start (Err fault, t') (world n s d)
 
 abbrev pub AStatusIsHeardOrIsPaidFor : Type 0

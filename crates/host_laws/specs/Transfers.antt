@@ -7,11 +7,12 @@ use Rattle.reader.specs.declared.state.Transfer.TheVariants.{Asked, Answered}
 use Rattle.reader.specs.Control.{begun, effect}
 use Rattle.reader.specs.Disk.{Disk}
 use Rattle.reader.specs.State.{State, Bulk}
+use Rattle.transport.specs.Toggles.{both_fresh}
 use Rattle.host.specs.declared.fault.Fault.{Fault}
 use Rattle.host.specs.declared.fault.TransportFault.{TransportFault}
-use Rattle.host.specs.declared.toggles.Toggles.{Toggles}
+use Rattle.transport.specs.declared.toggles.Toggles.{Toggles}
 use Rattle.host.specs.Process.{World, Runs}
-use Rattle.host.specs.Transfers.{Transferred, transfers, both_fresh, attaches, recovers}
+use Rattle.host.specs.Transfers.{Transferred, transfers, attaches, recovers}
 use Rattle.host_laws.specs.Deliveries.{world}
 use Rattle.host_laws.specs.InStep.{attached, Attached, InStep}
 

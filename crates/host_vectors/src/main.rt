@@ -39,10 +39,10 @@ fn attach(rt: &HostRuntime, name: &str, first: &[u16], is_open: bool) -> anyhow:
         Ok(()) => println!(rt; "{name}: attached")?,
         Err(fault) => {
             let cause = fault.cause.number();
-            let endpoint = fault.endpoint;
-            let stage = stage_name(fault.stage);
+            let endpoint = fault.place.endpoint;
+            let stage = stage_name(fault.place.stage);
             let tag = fault.tag;
-            let packet = fault.packet;
+            let packet = fault.place.packet;
             println!(rt;
                 "{name}: given up, cause {cause}, endpoint {endpoint}, stage {stage}, tag {tag}, packet {packet}"
             )?;
