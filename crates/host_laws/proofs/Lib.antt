@@ -1,5 +1,4 @@
 pub mod Attached
-use Rattle.transport.specs.declared.blocks.DataDirection.TheVariants.{In as DataIn}
 pub mod Attaching
 pub mod Blocks
 pub mod Buffers
@@ -9,7 +8,7 @@ pub mod Controls
 pub mod Deliveries
 pub mod Fetches
 pub mod Incoming
-pub mod DataIn
+pub mod Inward
 pub mod Outgoing
 pub mod Putting
 pub mod Recovering
