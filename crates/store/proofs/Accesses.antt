@@ -1,6 +1,6 @@
--- Accesses that are allowed: what is known of one, and what it is answered.
-use Rattle.std.proofs.Common.{◌≡◌, ℕ, ◌<◌, Bool, true, false, cond, eqb, ltb, Ok, Err, sym, refl, ◌∙◌, arith}
-use Rattle.std.proofs.lemmas.Bool.{ltb-true, eqb-true, lt-ltb, eq-eqb, cond-true}
+-- What is known of an access that is allowed.
+use Rattle.std.proofs.Common.{◌≡◌, ℕ, ◌<◌, Bool, true, false, cond, eqb, ltb, Ok, Err, refl, arith}
+use Rattle.std.proofs.lemmas.Bool.{ltb-true, eqb-true}
 use Rattle.store.specs.declared.answers.StoreRefusal.TheVariants.{PastTheEnd, WrongBuffer}
 use Rattle.store.specs.Access.{access}
 
@@ -16,7 +16,3 @@ pub allowed_access : {X : Type 0} (size sector buffer : ℕ) (x y : X) → Ok y 
 allowed_access size sector buffer x y e =
     let tests = both (ltb sector size) (eqb buffer 512) x y e in
     (ltb-true _ _ tests.0, eqb-true _ _ tests.1, tests.2)
-
-pub access_answer : {X : Type 0} (size sector buffer : ℕ) (x : X) → sector < size → buffer ≡ 512 → Ok x ≡ access size sector buffer x
-access_answer size sector buffer x there long =
-    sym (cond-true _ _ _ (lt-ltb sector size there) ∙ cond-true _ _ _ (eq-eqb buffer 512 long))

@@ -1,7 +1,7 @@
 -- Laws of a plain disk's sectors, as its memory has them and after a write.
 use Rattle.std.specs.Prelude.{◌≡◌, ℕ, ◌+◌, ◌*◌, ◌/◌, ◌<◌, ◌≤◌, min, cond, List, [], length, get_or, take, drop, set, Ok, Err, Result, nat_lt, slice_index_or, slice_set}
 use Rattle.std.proofs.Common.{sym, ap, ◌∙◌, ⊎_elim, arith}
-use Rattle.std.proofs.lemmas.Bool.{le-ltb, lt-ltb, cases_lt, cond-true, cond-false}
+use Rattle.std.proofs.lemmas.Bool.{lt-ltb, cases_lt, cond-true}
 use Rattle.store.specs.declared.answers.StoreRefusal.{StoreRefusal}
 use Rattle.store.specs.declared.answers.Verdict.{Verdict}
 use Rattle.store.specs.declared.answers.Verdict.TheVariants.{Taken, Locked, Full}
@@ -13,9 +13,6 @@ use Rattle.store.proofs.Sectors.{getD_whole, length_overlaid, whole_overlaid}
 
 -- a memory of one sector or more
 module _ (memory : List ℕ) (big : 512 ≤ length memory) where
-  pub big_verdict : plain_verdict memory ≡ Taken
-  big_verdict = cond-false _ _ _ (le-ltb _ _ big)
-
   pub sector_fits : (sector : ℕ) → sector < plain_size memory → sector * 512 + 512 ≤ length memory
   sector_fits sector h = omega (arith, sectors_fit memory big, h)
 

@@ -1,10 +1,10 @@
--- Numbers and their bytes, and lists by the elements at their front.
-use Rattle.std.proofs.Common.{◌≡◌, ℕ, zero, suc, ◌+◌, ◌*◌, ◌/◌, ◌%◌, ◌^◌, ◌<◌, ◌≤◌, List, [], ◌∷◌, ◌++◌, length, get_or, take, drop, refl, ap, ◌∙◌, arith}
+-- Numbers and their bytes, lists by the elements at their front, and tests of them.
+use Rattle.std.proofs.Common.{◌≡◌, ℕ, zero, suc, ◌+◌, ◌*◌, ◌/◌, ◌%◌, ◌^◌, ◌<◌, ◌≤◌, Bool, true, false, cond, List, [], ◌∷◌, ◌++◌, length, get_or, take, drop, Ok, Err, Result, refl, ap, ◌∙◌, arith}
 use Rattle.std.proofs.lemmas.List.{drop_more, take_at}
 use Rattle.transport.specs.Numbers.{low_first, low_first_at, high_first, high_first_at, two_high_first, two_high_first_at, field_at}
 use Rattle.transport.specs.Promises.{Bytes}
 
-pub byte_at : (bs : List ℕ) → Bytes bs → (i : ℕ) → get_or bs i 0 < 256
+byte_at : (bs : List ℕ) → Bytes bs → (i : ℕ) → get_or bs i 0 < 256
 byte_at [] all i = omega arith
 byte_at (b ∷ bs) all zero = all.0
 byte_at (b ∷ bs) all (suc i) = byte_at bs all.1 i
@@ -28,10 +28,10 @@ pub two_high_first_back : (n : ℕ) → n < 2 ^ 16 → two_high_first_at (two_hi
 two_high_first_back n h = omega arith
 
 -- four bytes make a number below 2 ^ 32, and are had back from it
-pub below_32_bits : (a b c d : ℕ) → a < 256 → b < 256 → c < 256 → d < 256 → a + b * 256 + c * 65536 + d * 16777216 < 2 ^ 32
+below_32_bits : (a b c d : ℕ) → a < 256 → b < 256 → c < 256 → d < 256 → a + b * 256 + c * 65536 + d * 16777216 < 2 ^ 32
 below_32_bits a b c d p q r s = omega arith
 
-pub four_back : (a b c d : ℕ) → a < 256 → b < 256 → c < 256 → d < 256 → a ∷ b ∷ c ∷ d ∷ [] ≡ low_first (a + b * 256 + c * 65536 + d * 16777216)
+four_back : (a b c d : ℕ) → a < 256 → b < 256 → c < 256 → d < 256 → a ∷ b ∷ c ∷ d ∷ [] ≡ low_first (a + b * 256 + c * 65536 + d * 16777216)
 four_back a b c d p q r s =
     let over_one : (a + b * 256 + c * 65536 + d * 16777216) / 256 ≡ b + c * 256 + d * 65536 = omega arith in
     let over_two : (a + b * 256 + c * 65536 + d * 16777216) / 65536 ≡ c + d * 256 = omega arith in
@@ -41,6 +41,14 @@ four_back a b c d p q r s =
     let third : c ≡ (a + b * 256 + c * 65536 + d * 16777216) / 65536 % 256 = rw over_two (omega arith) in
     let fourth : d ≡ (a + b * 256 + c * 65536 + d * 16777216) / 16777216 % 256 = rw over_three (omega arith) in
     λ i. first i ∷ second i ∷ third i ∷ fourth i ∷ []
+
+-- the four bytes from a place on, in a list of bytes
+module _ (bs : List ℕ) (all : Bytes bs) where
+  pub four_at : (i : ℕ) → get_or bs i 0 ∷ get_or bs (i + 1) 0 ∷ get_or bs (i + 2) 0 ∷ get_or bs (i + 3) 0 ∷ [] ≡ low_first (low_first_at bs i)
+  four_at i = four_back _ _ _ _ (byte_at bs all i) (byte_at bs all (i + 1)) (byte_at bs all (i + 2)) (byte_at bs all (i + 3))
+
+  pub narrow_at : (i : ℕ) → low_first_at bs i < 2 ^ 32
+  narrow_at i = below_32_bits _ _ _ _ (byte_at bs all i) (byte_at bs all (i + 1)) (byte_at bs all (i + 2)) (byte_at bs all (i + 3))
 
 -- a list is a field of it and what is around it
 pub split_off : (n i : ℕ) (bs : List ℕ) → i + n ≤ length bs → drop i bs ≡ field_at n i bs ++ drop (i + n) bs
@@ -55,3 +63,8 @@ length_field (suc n) i bs = ap suc (length_field n (i + 1) bs)
 
 pub taken : (n i : ℕ) (bs : List ℕ) → i + n ≤ length bs → take n (drop i bs) ≡ field_at n i bs
 taken n i bs h = ap (take n) (split_off n i bs h) ∙ take_at (field_at n i bs) (drop (i + n) bs) n (length_field n i bs)
+
+-- where something came out of a test, it has passed
+pub passed : {X E : Type 0} (t : Bool) (r : Result X E) (why : E) (x : X) → cond t r (Err why) ≡ Ok x → (t ≡ true) × (r ≡ Ok x)
+passed true r why x e = (refl, e)
+passed false r why x e = let no : ◌≡◌ {A = ℕ} 0 1 = cc in absurd (omega arith)

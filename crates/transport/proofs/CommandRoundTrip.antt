@@ -1,8 +1,8 @@
 -- Reading a built command returns it, and every command fits a block.
-use Rattle.std.proofs.Common.{◌≡◌, length, Some, refl}
+use Rattle.std.proofs.Common.{◌≡◌, true, ◌&&◌, nat_le, length, Some, refl}
 use Rattle.transport.specs.declared.commands.Command.{Command}
 use Rattle.transport.specs.declared.commands.Command.TheVariants.{Test, Capacity, Read, Write}
-use Rattle.transport.specs.Commands.{command_bytes, command_of}
+use Rattle.transport.specs.Commands.{command_bytes, command_of, command_size}
 use Rattle.transport.specs.Promises.{ReadingABuiltCommandReturnsIt, EveryCommandFitsABlock}
 use Rattle.transport.proofs.Bytes.{high_first_back, two_high_first_back}
 
@@ -20,8 +20,11 @@ sixteen Capacity = refl
 sixteen (Read place many) = refl
 sixteen (Write place many) = refl
 
+sizes : (k : Command) → (nat_le 1 (command_size k) && nat_le (command_size k) 16) ≡ true
+sizes Test = refl
+sizes Capacity = refl
+sizes (Read place many) = refl
+sizes (Write place many) = refl
+
 pub every_command_fits_a_block : EveryCommandFitsABlock
-every_command_fits_a_block number moves way Test tag long = record { narrow_tag = tag; narrow_length = long; sendable = refl; whole_command = sixteen Test }
-every_command_fits_a_block number moves way Capacity tag long = record { narrow_tag = tag; narrow_length = long; sendable = refl; whole_command = sixteen Capacity }
-every_command_fits_a_block number moves way (Read place many) tag long = record { narrow_tag = tag; narrow_length = long; sendable = refl; whole_command = sixteen (Read place many) }
-every_command_fits_a_block number moves way (Write place many) tag long = record { narrow_tag = tag; narrow_length = long; sendable = refl; whole_command = sixteen (Write place many) }
+every_command_fits_a_block number moves way k tag long = record { narrow_tag = tag; narrow_length = long; sendable = sizes k; whole_command = sixteen k }

@@ -1,5 +1,5 @@
 -- Reading a built status block returns it, and only built status blocks are accepted.
-use Rattle.std.proofs.Common.{◌≡◌, ℕ, zero, suc, ◌+◌, ◌^◌, ◌<◌, ◌≤◌, Bool, true, false, cond, eqb, leb, List, [], ◌∷◌, ◌++◌, length, get_or, Ok, Err, Result, refl, ap, ◌∙◌, subst, arith}
+use Rattle.std.proofs.Common.{◌≡◌, ℕ, zero, suc, ◌≤◌, true, eqb, leb, List, ◌∷◌, ◌++◌, length, get_or, Ok, Result, refl, ap, ◌∙◌, subst, arith}
 use Rattle.std.proofs.lemmas.List.{drop_all}
 use Rattle.std.proofs.lemmas.Bool.{eqb-true, eq-eqb, le-leb, leb-true, and_from, and_parts, cond-true}
 use Rattle.transport.specs.declared.refusals.TransportRefusal.{TransportRefusal}
@@ -9,7 +9,7 @@ use Rattle.transport.specs.declared.statuses.StatusBlock.{StatusBlock}
 use Rattle.transport.specs.Numbers.{low_first, low_first_at}
 use Rattle.transport.specs.Promises.{Bytes, StatusFits, ReadingABuiltStatusBlockReturnsIt, OnlyBuiltStatusBlocksAreAccepted}
 use Rattle.transport.specs.Statuses.{status_signature, status_number, status_of, status_bytes, status_read, status_in, is_status, is_sound}
-use Rattle.transport.proofs.Bytes.{byte_at, low_first_back, below_32_bits, four_back, split_off}
+use Rattle.transport.proofs.Bytes.{low_first_back, four_at, narrow_at, split_off, passed}
 
 known : (s : Status) → leb (status_number s) 2 ≡ true
 known Passed = refl
@@ -46,11 +46,6 @@ unfolding status_read
 reading_a_built_status_block_returns_it s most fits =
     cond-true _ _ _ (built_is_status s) ∙ cond-true _ _ _ (built_has_the_tag s most fits) ∙ cond-true _ _ _ (built_is_sound s most fits) ∙ ap Ok (status_in_built s most fits)
 
--- where a block came out, the test has passed
-passed : (t : Bool) (r : Result StatusBlock TransportRefusal) (why : TransportRefusal) (s : StatusBlock) → cond t r (Err why) ≡ Ok s → (t ≡ true) × (r ≡ Ok s)
-passed true r why s e = (refl, e)
-passed false r why s e = let no : ◌≡◌ {A = ℕ} 0 1 = cc in absurd (omega arith)
-
 same_block : (r s : StatusBlock) → ◌≡◌ {A = Result StatusBlock TransportRefusal} (Ok r) (Ok s) → r ≡ s
 same_block r s e = cc
 
@@ -61,20 +56,11 @@ number_back (suc (suc zero)) h = refl
 number_back (suc (suc (suc n))) h = absurd (omega arith)
 
 module _ (bs : List ℕ) (all : Bytes bs) where
-  small : (i : ℕ) → get_or bs i 0 < 256
-  small = byte_at bs all
-
-  four : (i : ℕ) → get_or bs i 0 ∷ get_or bs (i + 1) 0 ∷ get_or bs (i + 2) 0 ∷ get_or bs (i + 3) 0 ∷ [] ≡ low_first (low_first_at bs i)
-  four i = four_back _ _ _ _ (small i) (small (i + 1)) (small (i + 2)) (small (i + 3))
-
-  narrow : (i : ℕ) → low_first_at bs i < 2 ^ 32
-  narrow i = below_32_bits _ _ _ _ (small i) (small (i + 1)) (small (i + 2)) (small (i + 3))
-
   bytes_back : length bs ≡ 13 → low_first_at bs 0 ≡ status_signature → get_or bs 12 0 ≤ 2 → bs ≡ status_bytes (status_in bs)
   unfolding status_bytes
   bytes_back long signed status =
       split_off 13 0 bs (omega (arith, long))
-      ∙ (λ i. (four 0 ∙ ap low_first signed) i ++ (four 4 i ++ (four 8 i ++ (number_back _ status i ∷ drop_all 13 bs (omega (arith, long)) i))))
+      ∙ (λ i. (four_at bs all 0 ∙ ap low_first signed) i ++ (four_at bs all 4 i ++ (four_at bs all 8 i ++ (number_back _ status i ∷ drop_all 13 bs (omega (arith, long)) i))))
 
 pub only_built_status_blocks_are_accepted : OnlyBuiltStatusBlocksAreAccepted
 unfolding status_read
@@ -85,7 +71,7 @@ only_built_status_blocks_are_accepted bytes expected most s all e =
     let formed = and_parts (eqb (length bytes) 13) (eqb (low_first_at bytes 0) status_signature) block.0 in
     let limits = and_parts (leb (low_first_at bytes 8) most) (leb (get_or bytes 12 0) 2) sound.0 in
     subst (λ r. StatusFits r most × (r.tag ≡ expected) × (bytes ≡ status_bytes r)) (same_block _ _ sound.1) (
-      record { narrow_tag = narrow bytes all 4; narrow_residue = narrow bytes all 8; small_residue = leb-true _ _ limits.0 },
+      record { narrow_tag = narrow_at bytes all 4; narrow_residue = narrow_at bytes all 8; small_residue = leb-true _ _ limits.0 },
       eqb-true _ _ tagged.0,
       bytes_back bytes all (eqb-true _ _ formed.0) (eqb-true _ _ formed.1) (leb-true _ _ limits.1),
     )
