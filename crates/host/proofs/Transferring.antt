@@ -12,7 +12,7 @@ use Rattle.host.specs.declared.fault.TransactionFault.{TransactionFault}
 use Rattle.host.specs.declared.fault.TransportFault.{TransportFault}
 use Rattle.host.specs.Buses.{PerformsOver}
 use Rattle.host.specs.Faults.{located}
-use Rattle.host.specs.Process.{Process, done}
+use Rattle.host.specs.Process.{done}
 use Rattle.host.specs.Transactions.{passed}
 use Rattle.host.specs.Tries.{ending_seen, delivers, fetches}
 use Rattle.host.specs.Transfers.{Transferred, placed_as, reply_ended, setup_ended, transfers}

@@ -3,7 +3,6 @@ use Rattle.std.specs.Prelude.{ℕ, List, codes}
 use Rattle.host.specs.declared.fault.Cause.{Cause}
 use Rattle.host.specs.declared.fault.Cause.TheVariants.{Nothing, Damaged, Repeat, NotReady, Stalled, WrongReply}
 use Rattle.host.specs.declared.fault.Fault.{Fault}
-use Rattle.host.specs.declared.fault.Place.{Place}
 use Rattle.host.specs.declared.fault.Stage.{Stage}
 use Rattle.host.specs.declared.fault.Stage.TheVariants.{Block, Data, Status, Control}
 use Rattle.host.specs.declared.fault.TransportFault.{TransportFault}

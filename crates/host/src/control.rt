@@ -59,7 +59,11 @@ const SETUP: Place = Place {
 const REPLY: Place = Place { packet: 1, ..SETUP };
 
 impl<W: Wire, S: Store> Bus<'_, W, S> {
-    pub(crate) fn transfer(&mut self, address: Address, request: Request) -> Result<(), TransportFault>
+    pub(crate) fn transfer(
+        &mut self,
+        address: Address,
+        request: Request,
+    ) -> Result<(), TransportFault>
         ensures { PerformsOver W.Wire S.Store (transfers (address_number address) (request_setup request)) self.old result self.new }
     {
         let sent = self.deliver(OutPipe::Setup(address), DataKind::Data0, &request.setup());

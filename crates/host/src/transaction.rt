@@ -70,7 +70,12 @@ impl<W: Wire, S: Store> Bus<'_, W, S> {
     }
 
     // Data are fetched: any number of bytes, or as many as this.
-    pub(crate) fn fetch(&mut self, pipe: InPipe, toggle: DataKind, length: Option<usize>) -> Transacted<Body>
+    pub(crate) fn fetch(
+        &mut self,
+        pipe: InPipe,
+        toggle: DataKind,
+        length: Option<usize>,
+    ) -> Transacted<Body>
         ensures { PerformsOver W.Wire S.Store (fetches 3 (in_token pipe) toggle length Nothing) self.old (ending_seen result) self.new }
     {
         let mut cause = Cause::Nothing;

@@ -4,8 +4,8 @@ use Rattle.reader.specs.State.{seen}
 use Rattle.transport.specs.Toggles.{both_fresh}
 use Rattle.host.specs.Buses.{bus_seen}
 use Rattle.host.specs.Faults.{tagged}
-use Rattle.host.specs.Process.{Process, Bus, done, bind, Performs, bus_of}
-use Rattle.host.specs.Transfers.{Transferred, after_transfer, settled, attaches, transfers, address_setup, configure_setup}
+use Rattle.host.specs.Process.{done, bind, Performs, bus_of}
+use Rattle.host.specs.Transfers.{after_transfer, settled, attaches, transfers, address_setup, configure_setup}
 use Rattle.host.proofs.Settling.{stops_here, goes_on, ends_with, after_reset}
 use Rattle.host.proofs.host.Host.attach.Goals as goal
 
