@@ -75,7 +75,7 @@ reading_a_built_packet_returns_its_parts = read_built
 
 -- a first byte that names a kind is that kind's
 from_sought : (ks : List Kind) (b : ℕ) (k : Kind) → sought ks b ≡ Ok k → b ≡ pid k
-from_sought [] b k e = let no : ◌≡◌ {A = ℕ} 0 1 = cc in absurd (omega arith)
+from_sought [] b k e = cc
 from_sought (j ∷ ks) b k e = go (eqb b (pid j)) refl (from_sought ks b k) e
   where
     go : (t : Bool) → eqb b (pid j) ≡ t → (sought ks b ≡ Ok k → b ≡ pid k) → cond t (Ok j) (sought ks b) ≡ Ok k → b ≡ pid k
@@ -87,12 +87,12 @@ kind_has_its_pid b k = go (eqb (b / 16 + b % 16) 15)
   where
     go : (t : Bool) → cond t (sought kinds b) (Err WrongComplement) ≡ Ok k → b ≡ pid k
     go true e = from_sought kinds b k e
-    go false e = let no : ◌≡◌ {A = ℕ} 0 1 = cc in absurd (omega arith)
+    go false e = cc
 
 -- a test that is followed by a refusal has passed where a packet came out
 passed : (t : Bool) (r : Reading) (n : ℕ) (p : Parts) → cond t r (refused n) ≡ packet p → (t ≡ true) × (r ≡ packet p)
 passed true r n p e = (refl, e)
-passed false r n p e = let no : ◌≡◌ {A = ℕ} 0 1 = cc in absurd (omega arith)
+passed false r n p e = cc
 
 same_parts : (p q : Parts) → packet p ≡ packet q → p ≡ q
 same_parts p q e = cc
@@ -136,9 +136,9 @@ accepted_token : (k : TokenKind) (rest : List ℕ) (p : Parts) → Bytes rest �
 accepted_token k (x ∷ y ∷ []) p all e =
     let test = passed _ _ _ _ e in
     subst (λ q. Accepted q (pid (Token k) ∷ x ∷ y ∷ [])) (same_parts _ _ test.1) (accepted_word k x y (x + y * 256) (bytes_of_word x y all.0) test.0)
-accepted_token k [] p all e = let no : ◌≡◌ {A = ℕ} 0 1 = cc in absurd (omega arith)
-accepted_token k (x ∷ []) p all e = let no : ◌≡◌ {A = ℕ} 0 1 = cc in absurd (omega arith)
-accepted_token k (x ∷ y ∷ z ∷ rest) p all e = let no : ◌≡◌ {A = ℕ} 0 1 = cc in absurd (omega arith)
+accepted_token k [] p all e = cc
+accepted_token k (x ∷ []) p all e = cc
+accepted_token k (x ∷ y ∷ z ∷ rest) p all e = cc
 
 accepted_body : (k : DataKind) (body : List ℕ) (x y : ℕ) → length body ≤ 64 → x < 256 → eqb (x + y * 256) (body_check body) ≡ true → Accepted (data_packet k body) (pid (Data k) ∷ (body ++ x ∷ y ∷ []))
 unfolding building Accepted
@@ -162,17 +162,17 @@ accepted_data k rest p all e =
 accepted_handshake : (h : Handshakes) (rest : List ℕ) (p : Parts) → reading_handshake h rest ≡ packet p → Accepted p (pid (Handshake h) ∷ rest)
 unfolding building Accepted
 accepted_handshake h [] p e = subst (λ q. Accepted q (pid (Handshake h) ∷ [])) (same_parts _ _ e) (refl, refl)
-accepted_handshake h (x ∷ rest) p e = let no : ◌≡◌ {A = ℕ} 0 1 = cc in absurd (omega arith)
+accepted_handshake h (x ∷ rest) p e = cc
 
 accepted_rest : (first : ℕ) (rest : List ℕ) (p : Parts) (r : Result Kind Refusal) → kind_of_pid first ≡ r → Bytes rest → reading_rest r rest ≡ packet p → Accepted p (first ∷ rest)
 accepted_rest first rest p (Ok (Token k)) is all e = subst (λ b. Accepted p (b ∷ rest)) (sym (kind_has_its_pid first (Token k) is)) (accepted_token k rest p all e)
 accepted_rest first rest p (Ok (Data k)) is all e = subst (λ b. Accepted p (b ∷ rest)) (sym (kind_has_its_pid first (Data k) is)) (accepted_data k rest p all e)
 accepted_rest first rest p (Ok (Handshake h)) is all e = subst (λ b. Accepted p (b ∷ rest)) (sym (kind_has_its_pid first (Handshake h) is)) (accepted_handshake h rest p e)
-accepted_rest first rest p (Err x) is all e = let no : ◌≡◌ {A = ℕ} 0 1 = cc in absurd (omega arith)
+accepted_rest first rest p (Err x) is all e = cc
 
 accepted : (bytes : List ℕ) (p : Parts) → Bytes bytes → reading bytes ≡ packet p → Accepted p bytes
 unfolding reading
-accepted [] p all e = let no : ◌≡◌ {A = ℕ} 0 1 = cc in absurd (omega arith)
+accepted [] p all e = cc
 accepted (first ∷ rest) p all e = accepted_rest first rest p (kind_of_pid first) refl all.1 e
 
 pub only_built_packets_are_accepted : OnlyBuiltPacketsAreAccepted

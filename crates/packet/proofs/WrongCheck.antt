@@ -1,9 +1,10 @@
 -- One changed bit, covered or of the check, gives a wrong check, for every register that keeps the law.
-use Rattle.std.proofs.Common.{◌≡◌, ℕ, zero, suc, ◌+◌, ◌*◌, ◌/◌, ◌%◌, ◌^◌, ◌<◌, Bool, true, false, cond, not, ◌⊎◌, List, [], ◌∷◌, ◌++◌, length, sym, refl, ap, ◌∙◌, subst, inl, inr, mod-lt, pow-suc, arith, length-append, pow_pos}
+use Rattle.std.proofs.Common.{◌≡◌, ℕ, zero, suc, ◌+◌, ◌*◌, ◌/◌, ◌%◌, ◌^◌, ◌<◌, Bool, true, false, cond, not, ◌⊎◌, List, [], ◌∷◌, ◌++◌, length, take, drop, sym, refl, ap, ◌∙◌, subst, inl, inr, mod-lt, pow-suc, arith, length-append, pow_pos}
 use lib.Arith.{digits_div, digits_mod}
 use lib.Bits.{bit_xor, xor_lt}
 use lib.Pow.{ones_lt}
 use Rattle.std.proofs.lemmas.Bool.{true≢false, false≢true}
+use Rattle.std.proofs.lemmas.List.{take_at, drop_at}
 use Rattle.packet.specs.Bits.{bits, odd}
 use Rattle.packet.specs.Lawful.{Sized, Lawful}
 use Rattle.packet.specs.Promises.{OneBit, OneChangedBitGivesAWrongCheck}
@@ -51,14 +52,10 @@ one_bit_differs (x ∷ xs) (inl d) = not_itself x d.0
 one_bit_differs (x ∷ xs) (inr d) = one_bit_differs xs d.1
 
 same_parts_of : (xs us ys vs : List Bool) → length xs ≡ length us → xs ++ ys ≡ us ++ vs → (xs ≡ us) × (ys ≡ vs)
-same_parts_of [] [] ys vs n e = (refl, e)
-same_parts_of [] (u ∷ us) ys vs n e = absurd (omega arith)
-same_parts_of (x ∷ xs) [] ys vs n e = absurd (omega arith)
-same_parts_of (x ∷ xs) (u ∷ us) ys vs n e =
-    let head : x ≡ u = cc in
-    let tail : xs ++ ys ≡ us ++ vs = cc in
-    let rest = same_parts_of xs us ys vs (omega arith) tail in
-    (λ i. head i ∷ rest.0 i, rest.1)
+same_parts_of xs us ys vs n e = (
+  sym (take_at xs ys (length xs) refl) ∙ ap (take (length xs)) e ∙ take_at us vs (length xs) (sym n),
+  sym (drop_at xs ys (length xs) refl) ∙ ap (drop (length xs)) e ∙ drop_at us vs (length xs) (sym n),
+)
 
 -- the changed bit lies in the front or in the back
 one_bit_split : (xs us ys vs : List Bool) → length xs ≡ length us → OneBit (xs ++ ys) (us ++ vs) → (OneBit xs us × (ys ≡ vs)) ⊎ ((xs ≡ us) × OneBit ys vs)

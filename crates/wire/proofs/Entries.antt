@@ -8,7 +8,7 @@ use Rattle.wire.proofs.Laid.{carries_arrival, loses}
 
 -- bytes that are not read as a packet are no packet
 refused_by : (r : Reading) → is_packet r ≡ false → (n : ℕ) × (r ≡ refused n)
-refused_by (packet p) e = let no : ◌≡◌ {A = ℕ} 0 1 = cc in absurd (omega arith)
+refused_by (packet p) e = cc
 refused_by (refused n) e = (n, refl)
 
 -- flipped bytes arrive, or nothing
