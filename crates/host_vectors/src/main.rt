@@ -2,10 +2,10 @@
 // contract can tell which way the host sends a packet, since a wire means the same both ways; the counts of a hub's wires do.
 #![tactic(auto)]
 
-use host::{Host, Stage};
+use host::{Fault, Host, Place};
 use reader::Reader;
 use store::PlainDisk;
-use wire::{Hub, ScriptedWire, Wire};
+use wire::{Hub, Port, ScriptedWire, Wire};
 
 // Long enough that no packet of an attach is past a script's end, where packets are no longer counted.
 const ENTRIES: usize = 40;
@@ -13,36 +13,24 @@ const ENTRIES: usize = 40;
 // A wire that does this to its first packets, and delivers the others.
 fn scripted(rt: &HostRuntime, first: &[u16]) -> anyhow::Result<ScriptedWire> {
     let mut script = first.to_vec(rt.alloc())?;
-    for _i in 0..ENTRIES {
-        script.push(0)?;
-    }
+    script.extend_from_slice(&[0; ENTRIES])?;
     Ok(ScriptedWire::new(script))
 }
 
-fn stage_name(stage: Stage) -> &'static str {
-    match stage {
-        Stage::Block => "block",
-        Stage::Data => "data",
-        Stage::Status => "status",
-        Stage::Control => "control",
-    }
-}
-
-fn attach(rt: &HostRuntime, name: &str, first: &[u16], is_open: bool) -> anyhow::Result<()> {
+fn attach(rt: &HostRuntime, name: &str, first: &[u16], port: Port) -> anyhow::Result<()> {
     let mut hub = Hub::new(scripted(rt, first)?, scripted(rt, &[])?);
-    if !is_open {
-        hub.close();
-    }
+    hub.set_port(port);
     let mut reader = Reader::new(PlainDisk::new(Vec::new(rt.alloc())));
     let mut host = Host::new();
     match host.attach(&mut hub, &mut reader) {
         Ok(()) => println!(rt; "{name}: attached")?,
-        Err(fault) => {
-            let cause = fault.cause.number();
-            let endpoint = fault.place.endpoint;
-            let stage = stage_name(fault.place.stage);
-            let tag = fault.tag;
-            let packet = fault.place.packet;
+        Err(Fault { cause, place, tag }) => {
+            let cause = u8::from(cause);
+            let Place {
+                endpoint,
+                stage,
+                packet,
+            } = place;
             println!(rt;
                 "{name}: given up, cause {cause}, endpoint {endpoint}, stage {stage}, tag {tag}, packet {packet}"
             )?;
@@ -57,13 +45,13 @@ fn attach(rt: &HostRuntime, name: &str, first: &[u16], is_open: bool) -> anyhow:
 }
 
 fn main(rt: HostRuntime) -> anyhow::Result<()> {
-    attach(&rt, "nothing spoiled", &[], true)?;
-    attach(&rt, "the first SETUP lost on its way out", &[65535], true)?;
+    attach(&rt, "nothing spoiled", &[], Port::Open)?;
+    attach(&rt, "the first SETUP lost on its way out", &[65535], Port::Open)?;
     attach(
         &rt,
         "the first ACK lost on its way home",
         &[0, 0, 65535],
-        true,
+        Port::Open,
     )?;
-    attach(&rt, "a closed port", &[], false)
+    attach(&rt, "a closed port", &[], Port::Closed)
 }
