@@ -112,10 +112,9 @@ fn named_step(heap: Global, mut words: Words<'_>) -> Result<Step, ReadError>
 fn is_passed_over(line: &[u8]) -> bool
     ensures { result ≡ passed_over (words line.now) }
 {
-    match Words::of(line).next() {
-        Some(word) => !word.is_empty() && word[0] == b'#',
-        None => true,
-    }
+    Words::of(line)
+        .next()
+        .is_none_or(|word| word.first() == Some(&b'#'))
 }
 
 // The step that a line names, none where it is blank or a comment, or why it is not understood.
