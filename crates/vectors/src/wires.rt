@@ -1,6 +1,6 @@
 // Wires at their edges: noise, a tally that stops at 255, and hubs of hubs.
-use super::score::Score;
 use super::noise::NoiseWire;
+use super::score::Score;
 use packet::read;
 use wire::{Direction, Hub, PerfectWire, Port, ScriptedWire, Wire};
 
