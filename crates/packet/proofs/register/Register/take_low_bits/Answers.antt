@@ -16,11 +16,6 @@ module _ (w g content n i rest : ℕ) where
       let left : n - i ≡ 0 = omega arith in
       ap (λ k. fed w g content (bits k rest)) left
 
-pub loop-i-init : goal.loop-i-init
-loop-i-init g c =
-    let all : c.args.count - 0 ≡ c.args.count = omega arith in
-    rw all
-
 pub loop-i-preserved : goal.loop-i-preserved
 loop-i-preserved g c = rw c.take_bit.ensures (one_more _ _ _ _ _ _ c.loop-i-test.true ∙ c.loop-i.invariant)
 
