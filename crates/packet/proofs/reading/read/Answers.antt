@@ -26,13 +26,13 @@ returns-in_default c = no_bytes _ (search rules)
 pub returns-in_err-kind : goal.returns-in_err-kind
 returns-in_err-kind c =
     let e = err_from_is_err_and c.from_residual.result c.from_residual.ensures.1 in
-    rw (e.1, e.2) (by_kind _ (Err _) (search rules) (search rules))
+    rw (e.1, e.2) (by_kind c.args.bytes.now (Err _) (search rules) (search rules))
 
 pub returns-in-Token : goal.returns-in-Token
-returns-in-Token c = c.read_token.ensures ∙ by_kind _ (Ok (Token _)) (search rules) (search rules)
+returns-in-Token c = c.read_token.ensures ∙ by_kind c.args.bytes.now (Ok (Token c.in-Token.kind)) (search rules) (search rules)
 
 pub returns-in-Data : goal.returns-in-Data
-returns-in-Data c = c.read_data.ensures ∙ by_kind _ (Ok (Data _)) (search rules) (search rules)
+returns-in-Data c = c.read_data.ensures ∙ by_kind c.args.bytes.now (Ok (Data c.in-Data.kind)) (search rules) (search rules)
 
 pub returns-in-Handshake : goal.returns-in-Handshake
-returns-in-Handshake c = c.read_handshake.ensures ∙ by_kind _ (Ok (Handshake _)) (search rules) (search rules)
+returns-in-Handshake c = c.read_handshake.ensures ∙ by_kind c.args.bytes.now (Ok (Handshake c.in-Handshake.handshake)) (search rules) (search rules)
