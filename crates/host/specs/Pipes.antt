@@ -4,19 +4,17 @@ use Rattle.packet.specs.declared.kind.TokenKind.TheVariants.{Out, In, Setup}
 use Rattle.packet.specs.Parts.{Parts, token}
 use Rattle.host.specs.declared.pipe.Address.{Address}
 use Rattle.host.specs.declared.pipe.Address.TheVariants.{Default, Assigned}
-use Rattle.host.specs.declared.pipe.InPipe.{InPipe}
-use Rattle.host.specs.declared.pipe.InPipe.TheVariants.{Control, Bulk as BulkIn}
-use Rattle.host.specs.declared.pipe.OutPipe.{OutPipe}
-use Rattle.host.specs.declared.pipe.OutPipe.TheVariants.{Setup as SetupStage, Bulk as BulkOut}
+use Rattle.host.specs.declared.pipe.Pipe.{Pipe}
+use Rattle.host.specs.declared.pipe.Pipe.TheVariants.{Control, Bulk}
 
 abbrev pub address_number : Address → ℕ
 address_number Default = 0
 address_number Assigned = 1
 
-abbrev pub out_token : OutPipe → Parts
-out_token (SetupStage a) = token Setup (address_number a) 0
-out_token BulkOut = token Out 1 2
+abbrev pub out_token : Pipe → Parts
+out_token (Control a) = token Setup (address_number a) 0
+out_token Bulk = token Out 1 2
 
-abbrev pub in_token : InPipe → Parts
+abbrev pub in_token : Pipe → Parts
 in_token (Control a) = token In (address_number a) 0
-in_token BulkIn = token In 1 1
+in_token Bulk = token In 1 1

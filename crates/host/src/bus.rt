@@ -1,6 +1,5 @@
 // The bus as the host has it, and one exchange over it: a packet goes out, the reader hears what arrives, and its answer
 // goes home.
-ghost use Rattle.std.specs.Prelude.{◌≤◌, take};
 ghost use Rattle.packet.specs.Parts.{parts};
 ghost use Rattle.packet.specs.Reading.{reading};
 ghost use Rattle.host.specs.Buses.{PerformsOver};
@@ -19,17 +18,22 @@ pub(crate) struct Bus<'a, W: Wire, S: Store> {
 }
 
 impl<W: Wire, S: Store> Bus<'_, W, S> {
-    // What comes home is in the front of the memory; answers how many bytes it has.
-    pub(crate) fn exchange(&mut self, packet: WellFormed<'_>, heard: &mut [u8; 67]) -> usize
-        ensures within { result ≤ 67 }
-        ensures performs { PerformsOver W.Wire S.Store (sends (parts packet.entry.packet)) self.old (reading (take result heard.new)) self.new }
+    // Answers what came home, in the front of the memory.
+    pub(crate) fn exchange<'h>(
+        &mut self,
+        packet: WellFormed<'_>,
+        memory: &'h mut [u8; 67],
+    ) -> &'h [u8]
+        ensures { PerformsOver W.Wire S.Store (sends (parts packet.entry.packet)) self.old (reading result.now) self.new }
     {
         let mut sent = [0; 67];
         let length = packet.build(&mut sent);
-        let arrived = self.wire.carry(Direction::Outward, &sent[..length], heard);
+        let arrived = self.wire.carry(Direction::Outward, &sent[..length], memory);
         let mut answer = [0; 67];
-        let answered = self.reader.hear(&heard[..arrived], &mut answer);
-        self.wire
-            .carry(Direction::Homeward, &answer[..answered], heard)
+        let answered = self.reader.hear(&memory[..arrived], &mut answer);
+        let home = self
+            .wire
+            .carry(Direction::Homeward, &answer[..answered], memory);
+        &memory[..home]
     }
 }

@@ -6,7 +6,7 @@ ghost use Rattle.host.specs.Transfers.{request_setup, placed_as, transfers};
 
 use super::bus::Bus;
 use super::fault::{Cause, Place, Stage, TransactionFault, TransportFault};
-use super::pipe::{Address, InPipe, OutPipe};
+use super::pipe::{Address, Pipe};
 use super::transaction::Transacted;
 use packet::{Body, DataKind};
 use store::Store;
@@ -66,9 +66,9 @@ impl<W: Wire, S: Store> Bus<'_, W, S> {
     ) -> Result<(), TransportFault>
         ensures { PerformsOver W.Wire S.Store (transfers (address_number address) (request_setup request)) self.old result self.new }
     {
-        let sent = self.deliver(OutPipe::Setup(address), DataKind::Data0, &request.setup());
+        let sent = self.deliver(Pipe::Control(address), DataKind::Data0, &request.setup());
         placed(sent, SETUP)?;
-        let reply = self.fetch(InPipe::Control(address), DataKind::Data1, None);
+        let reply = self.fetch(Pipe::Control(address), DataKind::Data1, None);
         placed(reply, REPLY)?;
         Ok(())
     }

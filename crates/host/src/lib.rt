@@ -16,5 +16,5 @@ pub use control::Request;
 pub use fault::{Cause, Fault, Place, Stage, TransactionFault, TransportFault};
 pub use host::Host;
 pub use judging::{Arrival, Reply};
-pub use pipe::{Address, InPipe, OutPipe};
+pub use pipe::{Address, Pipe};
 pub use promises::{failed_deliveries_are_paid_for, failed_fetches_are_paid_for};

@@ -23,39 +23,32 @@ impl Address {
     }
 }
 
-// Where the host sends data: the setup of a control transfer, or the bulk endpoint 2.
+// The control endpoint at an address, or the bulk endpoints: 2 for data to the reader, 1 for data from it.
 #[derive(Clone, Copy)]
-pub enum OutPipe {
-    Setup(Address),
-    Bulk,
-}
-
-// Where it fetches them: the control endpoint, or the bulk endpoint 1.
-#[derive(Clone, Copy)]
-pub enum InPipe {
+pub enum Pipe {
     Control(Address),
     Bulk,
 }
 
-impl OutPipe {
-    pub(crate) fn token<'a>(self) -> WellFormed<'a>
+impl Pipe {
+    // Begins data to the reader; at the control endpoint they are a setup.
+    pub(crate) fn out_token<'a>(self) -> WellFormed<'a>
         ensures { parts result.packet ≡ out_token self }
     {
         let packet = match self {
-            OutPipe::Setup(address) => Packet::token(TokenKind::Setup, address.number(), 0),
-            OutPipe::Bulk => Packet::token(TokenKind::Out, Address::Assigned.number(), 2),
+            Pipe::Control(address) => Packet::token(TokenKind::Setup, address.number(), 0),
+            Pipe::Bulk => Packet::token(TokenKind::Out, Address::Assigned.number(), 2),
         };
         WellFormed { packet }
     }
-}
 
-impl InPipe {
-    pub(crate) fn token<'a>(self) -> WellFormed<'a>
+    // Asks for data from the reader.
+    pub(crate) fn in_token<'a>(self) -> WellFormed<'a>
         ensures { parts result.packet ≡ in_token self }
     {
         let packet = match self {
-            InPipe::Control(address) => Packet::token(TokenKind::In, address.number(), 0),
-            InPipe::Bulk => Packet::token(TokenKind::In, Address::Assigned.number(), 1),
+            Pipe::Control(address) => Packet::token(TokenKind::In, address.number(), 0),
+            Pipe::Bulk => Packet::token(TokenKind::In, Address::Assigned.number(), 1),
         };
         WellFormed { packet }
     }

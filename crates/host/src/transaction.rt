@@ -9,7 +9,7 @@ ghost use Rattle.host.specs.Tries.{ending_seen, tries_delivery, delivers, sends_
 use super::bus::Bus;
 use super::fault::{Cause, TransactionFault};
 use super::judging::{Arrival, Reply, judge_arrival, judge_reply};
-use super::pipe::{InPipe, OutPipe};
+use super::pipe::Pipe;
 use packet::{Body, DataKind, Handshake, WellFormed};
 use store::Store;
 use wire::Wire;
@@ -23,17 +23,16 @@ pub(crate) type Transacted<T> = Result<Option<T>, TransactionFault>;
 // Delivering and fetching go on by enums of their own, of three and of four outcomes, so that each has its own loop.
 impl<W: Wire, S: Store> Bus<'_, W, S> {
     // One try of sending data that follow a token.
-    fn try_delivery(&mut self, pipe: OutPipe, kind: DataKind, body: &Body) -> Reply
+    fn try_delivery(&mut self, pipe: Pipe, kind: DataKind, body: &Body) -> Reply
         ensures { PerformsOver W.Wire S.Store (tries_delivery (out_token pipe) (data_packet kind body.now)) self.old result self.new }
     {
-        let mut heard = [0; 67];
-        self.exchange(pipe.token(), &mut heard);
-        let count = self.exchange(WellFormed::data(kind, body), &mut heard);
-        judge_reply(&heard[..count])
+        let mut memory = [0; 67];
+        self.exchange(pipe.out_token(), &mut memory);
+        judge_reply(self.exchange(WellFormed::data(kind, body), &mut memory))
     }
 
     // Data that follow a token are delivered.
-    pub(crate) fn deliver(&mut self, pipe: OutPipe, kind: DataKind, body: &Body) -> Transacted<()>
+    pub(crate) fn deliver(&mut self, pipe: Pipe, kind: DataKind, body: &Body) -> Transacted<()>
         ensures { PerformsOver W.Wire S.Store (delivers 3 (out_token pipe) (data_packet kind body.now) Nothing) self.old (ending_seen result) self.new }
     {
         let mut cause = Cause::Nothing;
@@ -51,17 +50,16 @@ impl<W: Wire, S: Store> Bus<'_, W, S> {
     fn acknowledge(&mut self)
         ensures { PerformsOver W.Wire S.Store sends_ack self.old tt self.new }
     {
-        let mut heard = [0; 67];
-        self.exchange(WellFormed::handshake(Handshake::Ack), &mut heard);
+        self.exchange(WellFormed::handshake(Handshake::Ack), &mut [0; 67]);
     }
 
     // One try of fetching data; new data and repeats are acknowledged.
-    fn try_fetch(&mut self, pipe: InPipe, toggle: DataKind, length: Option<usize>) -> Arrival
+    fn try_fetch(&mut self, pipe: Pipe, toggle: DataKind, length: Option<usize>) -> Arrival
         ensures { PerformsOver W.Wire S.Store (tries_fetch (in_token pipe) toggle length) self.old (arrival_seen result) self.new }
     {
-        let mut heard = [0; 67];
-        let count = self.exchange(pipe.token(), &mut heard);
-        let arrival = judge_arrival(&heard[..count], toggle, length);
+        let mut memory = [0; 67];
+        let heard = self.exchange(pipe.in_token(), &mut memory);
+        let arrival = judge_arrival(heard, toggle, length);
         match arrival {
             Arrival::New(_) | Arrival::Repeat => self.acknowledge(),
             Arrival::Stalled | Arrival::Failed(_) => {}
@@ -72,7 +70,7 @@ impl<W: Wire, S: Store> Bus<'_, W, S> {
     // Data are fetched: any number of bytes, or as many as this.
     pub(crate) fn fetch(
         &mut self,
-        pipe: InPipe,
+        pipe: Pipe,
         toggle: DataKind,
         length: Option<usize>,
     ) -> Transacted<Body>
