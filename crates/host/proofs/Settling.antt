@@ -1,5 +1,5 @@
 -- One control transfer after another, and a port reset before them.
-use Rattle.std.proofs.Common.{◌≡◌, ℕ, Ok, Err, subst}
+use Rattle.std.proofs.Common.{◌≡◌, ℕ, Ok, Err, subst₂}
 use Rattle.reader.specs.Disk.{Disk}
 use Rattle.reader.specs.State.{State, fresh}
 use Rattle.host.specs.declared.fault.TransportFault.{TransportFault}
@@ -22,6 +22,6 @@ ends_with p f b m x first = both p (λ r. done (f r)) b m m x (f x) first (over 
 pub after_reset : {A : Type 0} (k : Process A) (t : ℕ) (s s' : State) (d : Disk) (r : A) (a : Bus) → s' ≡ fresh → Performs k (record { tally = t; reader = s'; disk = d }) r a → Performs (reset k) (record { tally = t; reader = s; disk = d }) r a
 after_reset k t s s' d r a is rest w stands = rest (record { reader = fresh; disk = w.disk; spoiled = w.spoiled }) (record { tally = stands.tally; reader = is; disk = stands.disk })
 
--- the bus is handed back
-pub handed_back : {A : Type 0} (p : Process A) (b m n : Bus) (r : A) → Performs p b r m → m ≡ n → Performs p b r n
-handed_back p b m n r performed same = subst (λ x. Performs p b r x) same performed
+-- the result is told, and the bus handed back
+pub handed_back : {A : Type 0} (p : Process A) (b m n : Bus) (x y : A) → Performs p b x m → x ≡ y → m ≡ n → Performs p b y n
+handed_back p b m n x y performed told same = subst₂ (λ z u. Performs p b z u) told same performed

@@ -47,7 +47,10 @@ accepted_reply (Ok (Some c)) b e = refl
 accepted_reply (Ok None) b e = not_both b _ e
 accepted_reply (Err t) b e = not_both b _ e
 
-module _ {W S : Type 0} (w : wire.Ghosts W) (s : store.Ghosts S) (a : ℕ) (setup : List ℕ) (b m : Ends W S) (x : Sent) (first : PerformsOver w s (delivers 3 (token Setup a 0) (data_packet Data0 setup) Nothing) b (ending_seen x) m) where
+module _ {W S : Type 0} (w : wire.Ghosts W) (s : store.Ghosts S) (a : ℕ) (setup body : List ℕ) (b m : Ends W S) (x : Sent) (is : body ≡ setup) (sent : PerformsOver w s (delivers 3 (token Setup a 0) (data_packet Data0 body) Nothing) b (ending_seen x) m) where
+  first : PerformsOver w s (delivers 3 (token Setup a 0) (data_packet Data0 setup) Nothing) b (ending_seen x) m
+  first = subst (λ l. PerformsOver w s (delivers 3 (token Setup a 0) (data_packet Data0 l) Nothing) b (ending_seen x) m) is sent
+
   pub given_up_at_setup : (f : TransportFault) → Err f ≡ placed_as 0 Control 0 x → PerformsOver w s (transfers a setup) b (Err f) m
   given_up_at_setup f e =
       both_over w s (delivers 3 (token Setup a 0) (data_packet Data0 setup) Nothing) (setup_ended a) b m m (ending_seen x) (Err f) first

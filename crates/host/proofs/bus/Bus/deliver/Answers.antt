@@ -1,6 +1,3 @@
-use Rattle.packet.specs.Parts.{data_packet}
-use Rattle.host.specs.declared.judging.Reply.TheVariants.{Acknowledged, Stalled, Failed}
-use Rattle.host.specs.Pipes.{out_token}
 use Rattle.host.specs.Transactions.{passed, stalled, gave_up}
 use Rattle.host.proofs.Performing.{over_at}
 use Rattle.host.proofs.Trying.{one_delivery_less, no_delivery_left}
@@ -8,25 +5,17 @@ use Rattle.host.proofs.bus.Bus.deliver.Goals as goal
 
 pub returns-in-Acknowledged : goal.returns-in-Acknowledged
 returns-in-Acknowledged g c =
-    let l = c.loop in
-    let m = c.try_delivery.new.self in
-    l.invariant (passed tt) m
-    (one_delivery_less g.W.Wire g.S.Store l.counter (out_token c.args.pipe) (data_packet c.args.kind c.args.body.now) l.cause l.self m m Acknowledged (passed tt) c.loop-test.true c.in-Acknowledged.ensures (over_at g.W.Wire g.S.Store (passed tt) m))
+    let ended = c.try_delivery.new.self in
+    c.loop.invariant (passed tt) ended (one_delivery_less g.W.Wire g.S.Store c.loop.counter _ _ c.loop.cause c.loop.self ended ended _ (passed tt) c.loop-test.true c.in-Acknowledged.ensures (over_at g.W.Wire g.S.Store (passed tt) ended))
 
 pub returns-in-Stalled : goal.returns-in-Stalled
 returns-in-Stalled g c =
-    let l = c.loop in
-    let m = c.try_delivery.new.self in
-    l.invariant stalled m
-    (one_delivery_less g.W.Wire g.S.Store l.counter (out_token c.args.pipe) (data_packet c.args.kind c.args.body.now) l.cause l.self m m Stalled stalled c.loop-test.true c.in-Stalled.ensures (over_at g.W.Wire g.S.Store stalled m))
+    let ended = c.try_delivery.new.self in
+    c.loop.invariant stalled ended (one_delivery_less g.W.Wire g.S.Store c.loop.counter _ _ c.loop.cause c.loop.self ended ended _ stalled c.loop-test.true c.in-Stalled.ensures (over_at g.W.Wire g.S.Store stalled ended))
 
 pub loop-preserved : goal.loop-preserved
 loop-preserved g c e b rest =
-    let l = c.loop in
-    l.invariant e b
-    (one_delivery_less g.W.Wire g.S.Store l.counter (out_token c.args.pipe) (data_packet c.args.kind c.args.body.now) l.cause l.self c.try_delivery.new.self b (Failed c.in-Failed.failed) e c.loop-test.true c.in-Failed.ensures rest)
+    c.loop.invariant e b (one_delivery_less g.W.Wire g.S.Store c.loop.counter _ _ c.loop.cause c.loop.self c.try_delivery.new.self b _ e c.loop-test.true c.in-Failed.ensures rest)
 
 pub returns : goal.returns
-returns g c =
-    let l = c.loop in
-    l.invariant (gave_up l.cause) l.self (no_delivery_left g.W.Wire g.S.Store l.counter (out_token c.args.pipe) (data_packet c.args.kind c.args.body.now) l.cause l.self c.loop-test.false)
+returns g c = c.loop.invariant (gave_up c.loop.cause) c.loop.self (no_delivery_left g.W.Wire g.S.Store c.loop.counter _ _ c.loop.cause c.loop.self c.loop-test.false)

@@ -1,4 +1,4 @@
-use Rattle.std.proofs.Common.{ap, take, inl, inr}
+use Rattle.std.proofs.Common.{ap, inl, inr}
 use Rattle.packet.specs.Reading.{reading}
 use Rattle.host.specs.Arrivals.{arrival_seen}
 use Rattle.host.specs.Pipes.{in_token}
