@@ -1,10 +1,11 @@
 // Bytes as text: two hexadecimal digits each, in lower case, with one blank between.
-ghost use Rattle.std.specs.Prelude.{◌≡◌, ◌++◌, IfOk, string_bytes, OnOk};
-ghost use Rattle.script.specs.Hex.{hex_value, hex_byte, after_blanks, hex_bytes, byte_read, ShownBytesAreReadBack};
+ghost use Rattle.std.specs.Prelude.{◌≡◌, ◌++◌, IfOk, string_bytes, OnOk, Some};
+ghost use Rattle.script.specs.Hex.{hex_value, hex_byte, hex_bytes, byte_read, ShownBytesAreReadBack};
 
 use super::Misread;
 use super::argument::Argument;
 use std::alloc::{AllocError, Global};
+use std::fmt;
 use std::fmt::Write;
 
 // What a digit stands for.
@@ -18,36 +19,51 @@ fn hex_value(digit: u8) -> Option<u8>
     }
 }
 
+// A byte as two digits: shown so, and an argument of a step.
+#[derive(Clone, Copy)]
+pub(crate) struct HexByte(u8);
+
+impl fmt::Display for HexByte {
+    ghost output = { λ byte. Some (hex_byte byte.0) };
+
+    #[tactic(auto, using(std::proofs::lemmas::Fmt::hex_byte))]
+    fn fmt<W: fmt::Write>(&self, f: &mut fmt::Formatter<W>) -> fmt::Result {
+        let byte = self.0;
+        write!(f, "{byte:02x}")
+    }
+}
+
 // One byte more at the end of a text.
-#[tactic(auto, using(std::proofs::lemmas::Fmt::hex_byte))]
 pub fn push_byte(text: &mut String, byte: u8) -> Result<(), AllocError>
     ensures { OnOk result (string_bytes text.new ≡ string_bytes text.old ++ hex_byte byte) }
 {
-    write!(text, "{byte:02x}")
+    write!(text, "{}", HexByte(byte))
 }
 
-// Each byte after a blank.
-fn push_after_blanks(text: &mut String, bytes: &[u8]) -> Result<(), AllocError>
-    ensures { OnOk result (string_bytes text.new ≡ string_bytes text.old ++ after_blanks bytes.now) }
-{
-    for byte in bytes {
-        text.push(' ')?;
-        push_byte(text, *byte)?;
+// Bytes with one blank between, or the word `nothing` where there are none.
+#[derive(Clone, Copy)]
+pub struct Hex<'a>(pub &'a [u8]);
+
+impl fmt::Display for Hex<'_> {
+    ghost output = { λ hex. Some (hex_bytes hex.0.now) };
+
+    fn fmt<W: fmt::Write>(&self, f: &mut fmt::Formatter<W>) -> fmt::Result {
+        let Some((first, rest)) = self.0.split_first() else {
+            return f.write_str("nothing");
+        };
+        write!(f, "{}", HexByte(*first))?;
+        for byte in rest {
+            write!(f, " {}", HexByte(*byte))?;
+        }
+        Ok(())
     }
-    Ok(())
 }
 
-// The bytes in digits, or the word `nothing` where there are none.
+// The bytes as a text of their own.
 pub fn show_bytes(heap: Global, bytes: &[u8]) -> Result<String, AllocError>
     ensures { IfOk result (λ text. string_bytes text ≡ hex_bytes bytes.now) }
 {
-    if bytes.is_empty() {
-        return String::from_str(heap, "nothing");
-    }
-    let mut text = String::new(heap);
-    push_byte(&mut text, bytes[0])?;
-    push_after_blanks(&mut text, &bytes[1..])?;
-    Ok(text)
+    Hex(bytes).to_string(heap)
 }
 
 // The byte that a word of two digits writes.
@@ -62,9 +78,6 @@ pub fn read_byte(word: &[u8]) -> Result<u8, Misread>
         _ => Err(Misread::NotAByte),
     }
 }
-
-// A byte of two digits, as an argument of a step.
-pub(crate) struct HexByte;
 
 impl Argument for HexByte {
     type Value = u8;

@@ -1,6 +1,0 @@
-use Rattle.std.proofs.Common.{◌≡◌, ◌++◌, drop, string_bytes}
-use Rattle.script.specs.Hex.{after_blanks}
-use Rattle.script.proofs.hex.push_after_blanks.Given as goal
-
-abbrev pub invariant-loop-byte : goal.invariant-loop-byte
-invariant-loop-byte l = string_bytes l.text ++ after_blanks (drop l.byte-index l.bytes) ≡ string_bytes l.initial.text ++ after_blanks l.bytes
