@@ -51,11 +51,3 @@ impl fmt::Display for StoreRefusal {
         write!(f, "refused {}", u8::from(*self))
     }
 }
-
-impl StoreRefusal {
-    pub fn number(self) -> u8
-        ensures { result ≡ refusal_number self }
-    {
-        self.into()
-    }
-}
