@@ -52,6 +52,7 @@ impl Store for LimitedDisk {
         self.disk.read_sector(sector, into)
     }
 
+    // The rest of what the trait says of a write follows from the answer, the memory and the writes left.
     fn write_sector(&mut self, sector: u32, from: &[u8]) -> Result<Verdict, StoreRefusal>
         ensures answer { result ≡ write_answer (plain_size self.old.disk.memory.items) sector (length from.now) (limited_verdict self.old.left (plain_verdict self.old.disk.memory.items)) }
         ensures memory { self.new.disk.memory.items ≡ plain_memory result self.old.disk.memory.items sector from.now }

@@ -47,7 +47,7 @@ impl<S: Store> Store for Lock<S> {
         self.store.read_sector(sector, into)
     }
 
-    // The store itself stays as it was, and not just what it shows.
+    // The store itself stays as it was, and not just what it shows. The rest of what the trait says of a write follows.
     fn write_sector(&mut self, sector: u32, from: &[u8]) -> Result<Verdict, StoreRefusal>
         ensures answer { result ≡ write_answer (S.Store.size self.old.store) sector (length from.now) Locked }
         ensures store { self.new.store ≡ self.old.store }

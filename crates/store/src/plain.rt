@@ -72,6 +72,7 @@ impl Store for PlainDisk {
         Ok(())
     }
 
+    // The rest of what the trait says of a write follows from the answer and the memory.
     fn write_sector(&mut self, sector: u32, from: &[u8]) -> Result<Verdict, StoreRefusal>
         ensures answer { result ≡ write_answer (plain_size self.old.memory.items) sector (length from.now) (plain_verdict self.old.memory.items) }
         ensures memory { self.new.memory.items ≡ plain_memory result self.old.memory.items sector from.now }
