@@ -4,13 +4,14 @@ use Rattle.std.proofs.lemmas.Bool.{eqb-true, true≢false}
 use Rattle.packet.specs.declared.kind.DataKind.{DataKind}
 use Rattle.packet.specs.declared.kind.Handshake.TheVariants.{Ack, Nak, Stall}
 use Rattle.packet.specs.declared.kind.TokenKind.TheVariants.{Out, In, Setup}
+use Rattle.packet.specs.Kinds.{same_kind}
 use Rattle.packet.specs.Parts.{token, data_packet, handshake}
 use Rattle.packet.specs.Reading.{Reading, packet, refused}
 use Rattle.reader.specs.declared.state.Expectation.{Expectation}
 use Rattle.reader.specs.declared.state.Expectation.TheVariants.{Nothing, SetupData, ControlData, BulkData, ControlAck, BulkAck}
 use Rattle.reader.specs.declared.state.Halts.{Halts}
 use Rattle.reader.specs.Answers.{acks, stalls}
-use Rattle.reader.specs.BulkEnds.{unwritten, same_kind, receiving_halted, wanted}
+use Rattle.reader.specs.BulkEnds.{unwritten, receiving_halted, wanted}
 use Rattle.reader.specs.Control.{expecting}
 use Rattle.reader.specs.Disk.{Disk, Written}
 use Rattle.reader.specs.Hears.{hears, hears_data}

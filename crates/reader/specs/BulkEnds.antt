@@ -1,6 +1,7 @@
 -- The bulk endpoints: 1 IN and 2 OUT.
 use Rattle.std.specs.Prelude.{◌≡◌, ℕ, Bool, true, false, cond, List, None}
 use Rattle.packet.specs.declared.kind.DataKind.{DataKind}
+pub use Rattle.packet.specs.Kinds.{turned, same_kind}
 use Rattle.packet.specs.Parts.{data_packet}
 use Rattle.reader.specs.declared.state.Expectation.TheVariants.{Nothing, BulkAck}
 use Rattle.reader.specs.declared.state.Halts.{Halts}
@@ -14,7 +15,6 @@ use Rattle.transport.specs.Statuses.{status_bytes}
 use Rattle.transport.specs.declared.blocks.DataDirection.{DataDirection}
 use Rattle.transport.specs.declared.blocks.DataDirection.TheVariants.{In, Out}
 use Rattle.transport.specs.Toggles.{toggle_turned}
-pub use Rattle.packet.specs.Kinds.{turned, same_kind}
 
 -- what hearing comes to: the state, the answer, and the sector that was written
 pub record Outcome : Type 0 where

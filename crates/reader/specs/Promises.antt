@@ -3,12 +3,13 @@ use Rattle.std.specs.Prelude.{◌≡◌, ℕ, ◌<◌, ◌≤◌, min, Bool, tru
 use Rattle.packet.specs.declared.kind.DataKind.{DataKind}
 use Rattle.packet.specs.declared.kind.TokenKind.TheVariants.{In}
 use Rattle.packet.specs.Building.{can_be_built}
+use Rattle.packet.specs.Kinds.{same_kind}
 use Rattle.packet.specs.Parts.{Parts, token, data_packet}
 use Rattle.packet.specs.Reading.{Reading, packet}
 use Rattle.reader.specs.declared.state.Addresses.TheVariants.{One}
 use Rattle.reader.specs.declared.state.Expectation.TheVariants.{Nothing, BulkData}
 use Rattle.reader.specs.Answers.{Answer, quiet, says, acks, answer_bytes}
-use Rattle.reader.specs.BulkEnds.{same_kind, receiving_halted}
+use Rattle.reader.specs.BulkEnds.{receiving_halted}
 use Rattle.reader.specs.Control.{expecting, addressed}
 use Rattle.reader.specs.Disk.{Disk}
 use Rattle.reader.specs.Hears.{hears}

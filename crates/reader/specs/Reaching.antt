@@ -3,6 +3,7 @@ use Rattle.std.specs.Prelude.{◌≡◌, Bool, true, false, not, ◌&&◌, List,
 use Rattle.packet.specs.declared.kind.DataKind.{DataKind}
 use Rattle.packet.specs.declared.kind.Handshake.TheVariants.{Ack, Nak, Stall}
 use Rattle.packet.specs.declared.kind.TokenKind.TheVariants.{Out, In, Setup}
+use Rattle.packet.specs.Kinds.{same_kind}
 use Rattle.packet.specs.Parts.{token, data_packet, handshake}
 use Rattle.packet.specs.Reading.{Reading, packet, refused}
 use Rattle.reader.specs.declared.state.Expectation.{Expectation}
@@ -10,7 +11,7 @@ use Rattle.reader.specs.declared.state.Expectation.TheVariants.{Nothing, SetupDa
 use Rattle.reader.specs.declared.state.Request.TheVariants.{SetAddress, Configure, ClearHalt, ResetTransport}
 use Rattle.reader.specs.declared.state.Transfer.{Transfer}
 use Rattle.reader.specs.declared.state.Transfer.TheVariants.{None as NoTransfer, Asked, Answered, Stalled}
-use Rattle.reader.specs.BulkEnds.{same_kind, receiving_halted}
+use Rattle.reader.specs.BulkEnds.{receiving_halted}
 use Rattle.reader.specs.Control.{addressed}
 use Rattle.reader.specs.Disk.{Disk}
 use Rattle.reader.specs.Hears.{hears}

@@ -3,14 +3,14 @@ use Rattle.std.specs.Prelude.{ℕ, Bool, false, List, take}
 use Rattle.reader.specs.declared.phase.Phase.{Phase as Phases}
 use Rattle.reader.specs.declared.phase.Phase.TheVariants.{Command, DataIn, DataOut, Status}
 use Rattle.reader.specs.declared.phase.Source.{Source}
-use Rattle.reader.specs.declared.state.Addresses.{Addresses}
 use Rattle.reader.specs.declared.state.Addresses.TheVariants.{One}
+use Rattle.reader.specs.declared.state.Bulk.{Bulk as Ends}
+use Rattle.reader.specs.declared.state.Control.{Control as ControlEnd}
 use Rattle.reader.specs.declared.state.Core.{Core}
 use Rattle.reader.specs.declared.state.Expectation.{Expectation}
 use Rattle.reader.specs.declared.state.Expectation.TheVariants.{Nothing}
 use Rattle.reader.specs.declared.state.Halts.{Halts}
 use Rattle.reader.specs.declared.state.Halts.TheVariants.{Each}
-use Rattle.reader.specs.declared.state.Transfer.{Transfer}
 use Rattle.reader.specs.declared.state.Transfer.TheVariants.{None}
 use Rattle.transport.specs.declared.statuses.StatusBlock.{StatusBlock}
 use Rattle.transport.specs.declared.toggles.Toggles.{Toggles}
@@ -24,11 +24,9 @@ pub data Phase : Type 0 where
   data_out : (tag due left sector : ℕ) → List ℕ → Phase
   status : StatusBlock → Bool → Phase
 
--- the control endpoint
-pub record Control : Type 0 where
-  pub addresses : Addresses
-  pub configured : Bool
-  pub transfer : Transfer
+-- the control endpoint, as the code has it
+abbrev pub Control : Type 0
+Control = ControlEnd
 
 -- the bulk endpoints
 pub record Bulk : Type 0 where
@@ -48,10 +46,13 @@ phase_seen (DataIn s) buffer = data_in s.tag s.due s.left s.moved s.source
 phase_seen (DataOut r) buffer = data_out r.tag r.due r.left r.sector (take r.come buffer)
 phase_seen (Status block sent) buffer = status block sent
 
+abbrev pub bulk_seen : Ends → Bulk
+bulk_seen b = record { toggles = b.toggles; halts = b.halts; phase = phase_seen b.phase b.buffer }
+
 abbrev pub seen : Core → State
 seen c = record {
-  control = record { addresses = c.addresses; configured = c.configured; transfer = c.transfer };
-  bulk = record { toggles = c.toggles; halts = c.halts; phase = phase_seen c.phase c.buffer };
+  control = c.control;
+  bulk = bulk_seen c.bulk;
   expects = c.expects;
 }
 

@@ -5,22 +5,21 @@ ghost use Rattle.reader.specs.Answers.{answer_seen};
 ghost use Rattle.reader.specs.BulkEnds.{ComesTo, wanted, bulk_data, offered, bulk_in, bulk_acknowledged, bulk_ack};
 ghost use Rattle.reader.specs.Control.{with_bulk};
 ghost use Rattle.reader.specs.Disk.{disk_of, Left};
-ghost use Rattle.reader.specs.State.{seen};
+ghost use Rattle.reader.specs.State.{bulk_seen, seen};
 
 use super::answer::Answer;
 use super::phase::Phase;
 use super::sending::{status_body, waiting_body};
-use super::state::{Core, Expectation};
+use super::state::{Bulk, Core, Expectation};
 use packet::{DataKind, Handshake};
 use store::Store;
 use transport::DataDirection;
 
-impl Core {
-    // The acknowledgement of what was sent.
-    pub(crate) fn hear_bulk_ack(&mut self) -> Answer
-        ensures { (seen self.new, answer_seen result) ≡ bulk_ack (seen self.old) }
+impl Bulk {
+    // What was sent is acknowledged.
+    fn acknowledge(&mut self)
+        ensures { bulk_seen self.new ≡ bulk_acknowledged (bulk_seen self.old).phase (bulk_seen self.old) }
     {
-        self.expects = Expectation::Nothing;
         match self.phase {
             Phase::DataIn(sending) => {
                 self.toggles = self.toggles.toggle(DataDirection::In);
@@ -32,6 +31,16 @@ impl Core {
             }
             Phase::Command | Phase::DataOut(_) | Phase::Status { sent: false, .. } => {}
         }
+    }
+}
+
+impl Core {
+    // The acknowledgement of what was sent.
+    pub(crate) fn hear_bulk_ack(&mut self) -> Answer
+        ensures { (seen self.new, answer_seen result) ≡ bulk_ack (seen self.old) }
+    {
+        self.expects = Expectation::Nothing;
+        self.bulk.acknowledge();
         Answer::Nothing
     }
 
@@ -40,11 +49,11 @@ impl Core {
         ensures { (seen self.new, answer_seen result) ≡ bulk_in (seen self.old) (disk_of S.Store store.now) }
     {
         self.expects = Expectation::Nothing;
-        if self.halts.is_halted(DataDirection::In) {
+        if self.bulk.halts.is_halted(DataDirection::In) {
             return Answer::Handshake(Handshake::Stall);
         }
-        let kind = self.toggles.data_in;
-        match self.phase {
+        let kind = self.bulk.toggles.data_in;
+        match self.bulk.phase {
             Phase::Command | Phase::DataOut(_) => Answer::Handshake(Handshake::Nak),
             Phase::DataIn(sending) => {
                 self.expects = Expectation::BulkAck;
@@ -52,7 +61,7 @@ impl Core {
             }
             Phase::Status { block, .. } => {
                 self.expects = Expectation::BulkAck;
-                self.phase = Phase::Status { block, sent: true };
+                self.bulk.phase = Phase::Status { block, sent: true };
                 Answer::Data(kind, status_body(block))
             }
         }
@@ -64,21 +73,21 @@ impl Core {
         ensures { ComesTo (wanted (seen self.old).bulk.phase (seen self.old) (disk_of S.Store store.old) body.now) (seen self.new) (answer_seen result) (disk_of S.Store store.old) (disk_of S.Store store.new) }
     {
         self.expects = Expectation::Nothing;
-        match self.phase {
+        match self.bulk.phase {
             Phase::Command => {
-                self.toggles = self.toggles.toggle(DataDirection::Out);
-                self.take_block(store.sector_count(), body);
+                self.bulk.toggles = self.bulk.toggles.toggle(DataDirection::Out);
+                self.bulk.take_block(store.sector_count(), body);
                 Answer::Handshake(Handshake::Ack)
             }
             Phase::DataOut(receiving) => {
-                self.toggles = self.toggles.toggle(DataDirection::Out);
-                self.take_data(store, receiving, body);
+                self.bulk.toggles = self.bulk.toggles.toggle(DataDirection::Out);
+                self.bulk.take_data(store, receiving, body);
                 Answer::Handshake(Handshake::Ack)
             }
             Phase::Status { sent: true, .. } => {
-                let acknowledged = self.toggles.toggle(DataDirection::In);
-                self.toggles = acknowledged.toggle(DataDirection::Out);
-                self.take_block(store.sector_count(), body);
+                let acknowledged = self.bulk.toggles.toggle(DataDirection::In);
+                self.bulk.toggles = acknowledged.toggle(DataDirection::Out);
+                self.bulk.take_block(store.sector_count(), body);
                 Answer::Handshake(Handshake::Ack)
             }
             Phase::DataIn(_) | Phase::Status { sent: false, .. } => {
@@ -96,11 +105,11 @@ impl Core {
     ) -> Answer
         ensures { ComesTo (bulk_data (seen self.old) (disk_of S.Store store.old) kind body.now) (seen self.new) (answer_seen result) (disk_of S.Store store.old) (disk_of S.Store store.new) }
     {
-        if kind != self.toggles.data_out {
+        if kind != self.bulk.toggles.data_out {
             self.expects = Expectation::Nothing;
             return Answer::Handshake(Handshake::Ack);
         }
-        if self.halts.is_halted(DataDirection::Out) {
+        if self.bulk.halts.is_halted(DataDirection::Out) {
             self.expects = Expectation::Nothing;
             return Answer::Handshake(Handshake::Stall);
         }

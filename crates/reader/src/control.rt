@@ -1,15 +1,14 @@
 // The control endpoint: addresses, requests and what they do.
 ghost use Rattle.std.specs.Prelude.{◌≡◌, ◌+◌, ◌*◌, length};
 ghost use Rattle.reader.specs.Answers.{answer_seen};
-ghost use Rattle.reader.specs.Control.{addressed, settled, acknowledged, heard_too, clear_asked, asked, begun, halt_cleared, effect, control_in, setup_data, control_data, control_ack, expecting, with_control, with_addresses};
-ghost use Rattle.reader.specs.State.{seen};
-ghost use Rattle.reader.specs.declared.state.Request.TheVariants.{ClearHalt};
+ghost use Rattle.reader.specs.Control.{addressed, settled, acknowledged, heard_too, clear_asked, asked, begun, halt_cleared, transport_reset, effect, control_in, setup_data, control_data, control_ack, expecting, with_control, with_addresses};
+ghost use Rattle.reader.specs.State.{bulk_seen, seen};
 
 use super::answer::Answer;
 use super::phase::Phase;
-use super::state::{Addresses, Core, Expectation, Halts, Request, Transfer};
+use super::state::{Addresses, Bulk, Core, Expectation, Halts, Request, Transfer};
 use packet::{Body, DataKind, Handshake, TokenKind};
-use transport::{DataDirection, Toggles};
+use transport::DataDirection;
 
 impl Addresses {
     pub(crate) fn hear(self, address: u8) -> bool
@@ -77,10 +76,10 @@ fn asked(configured: bool, kind: u8, request: u8, value: u16, index: u16) -> Tra
     }
 }
 
-impl Core {
+impl Bulk {
     // Ends a halt and sets its toggle to DATA0, unless an invalid block came.
     fn clear_halt(&mut self, direction: DataDirection)
-        ensures { seen self.new ≡ effect (ClearHalt direction) (seen self.old) }
+        ensures { bulk_seen self.new ≡ halt_cleared direction (bulk_seen self.old) self.old.halts }
     {
         let Halts::Each { .. } = self.halts else {
             return;
@@ -89,36 +88,39 @@ impl Core {
         self.halts = self.halts.with(direction, false);
     }
 
+    // A reset of the transport drops the command.
+    fn reset(&mut self)
+        ensures { bulk_seen self.new ≡ transport_reset (bulk_seen self.old) }
+    {
+        self.halts = self.halts.keep();
+        self.phase = Phase::Command;
+    }
+}
+
+impl Core {
     // What a request does when its status is first sent.
     fn take_effect(&mut self, request: Request)
         ensures { seen self.new ≡ effect request (seen self.old) }
     {
         match request {
             Request::SetAddress(address) => {
-                self.addresses = self.addresses.hear_too(address);
+                self.control.addresses = self.control.addresses.hear_too(address);
             }
             Request::Configure(on) => {
-                self.configured = on;
-                self.toggles = Toggles::fresh();
-                self.halts = Halts::NONE;
-                self.phase = Phase::Command;
+                self.control.configured = on;
+                self.bulk = Bulk::fresh();
             }
-            Request::ClearHalt(direction) => self.clear_halt(direction),
-            Request::ResetTransport => {
-                self.halts = self.halts.keep();
-                self.phase = Phase::Command;
-            }
+            Request::ClearHalt(direction) => self.bulk.clear_halt(direction),
+            Request::ResetTransport => self.bulk.reset(),
         }
     }
-}
 
-impl Core {
     // An IN for the control endpoint.
     pub(crate) fn hear_control_in(&mut self) -> Answer
         ensures { (seen self.new, answer_seen result) ≡ control_in (seen self.old) }
     {
         self.expects = Expectation::Nothing;
-        match self.transfer {
+        match self.control.transfer {
             Transfer::None => Answer::Handshake(Handshake::Nak),
             Transfer::Stalled => Answer::Handshake(Handshake::Stall),
             Transfer::Answered => {
@@ -126,7 +128,7 @@ impl Core {
                 Answer::Data(DataKind::Data1, Body::empty())
             }
             Transfer::Asked(request) => {
-                self.transfer = Transfer::Answered;
+                self.control.transfer = Transfer::Answered;
                 self.take_effect(request);
                 self.expects = Expectation::ControlAck;
                 Answer::Data(DataKind::Data1, Body::empty())
@@ -147,7 +149,7 @@ impl Core {
         }
         let value = u16::from_le_bytes([body[2], body[3]]);
         let index = u16::from_le_bytes([body[4], body[5]]);
-        self.transfer = asked(self.configured, body[0], body[1], value, index);
+        self.control.transfer = asked(self.control.configured, body[0], body[1], value, index);
         Answer::Handshake(Handshake::Ack)
     }
 
@@ -156,7 +158,7 @@ impl Core {
         ensures { (seen self.new, answer_seen result) ≡ control_data (seen self.old) }
     {
         self.expects = Expectation::Nothing;
-        match self.transfer {
+        match self.control.transfer {
             Transfer::None | Transfer::Asked(_) | Transfer::Answered => {
                 Answer::Handshake(Handshake::Ack)
             }
@@ -169,7 +171,7 @@ impl Core {
         ensures { (seen self.new, answer_seen result) ≡ control_ack (seen self.old) }
     {
         self.expects = Expectation::Nothing;
-        self.addresses = self.addresses.acknowledge();
+        self.control.addresses = self.control.addresses.acknowledge();
         Answer::Nothing
     }
 }

@@ -86,12 +86,12 @@ impl<S: Store> Reader<S> {
     {
         self.core.expects = match (kind, endpoint) {
             (TokenKind::In, 0) => return self.core.hear_control_in(),
-            (TokenKind::In, 1) if self.core.configured => {
+            (TokenKind::In, 1) if self.core.control.configured => {
                 return self.core.hear_bulk_in(&self.store);
             }
             (TokenKind::Setup, 0) => Expectation::SetupData,
             (TokenKind::Out, 0) => Expectation::ControlData,
-            (TokenKind::Out, 2) if self.core.configured => Expectation::BulkData,
+            (TokenKind::Out, 2) if self.core.control.configured => Expectation::BulkData,
             _ => Expectation::Nothing,
         };
         Answer::Nothing
@@ -100,11 +100,11 @@ impl<S: Store> Reader<S> {
     fn hear_token(&mut self, kind: TokenKind, address: u8, endpoint: u8) -> Answer
         ensures { ComesTo (hears_token (seen self.old.core) (disk_of S.Store self.old.store) kind address endpoint) (seen self.new.core) (answer_seen result) (disk_of S.Store self.old.store) (disk_of S.Store self.new.store) }
     {
-        if !self.core.addresses.hear(address) {
+        if !self.core.control.addresses.hear(address) {
             self.core.expects = Expectation::Nothing;
             return Answer::Nothing;
         }
-        self.core.addresses = self.core.addresses.settle(kind, address);
+        self.core.control.addresses = self.core.control.addresses.settle(kind, address);
         self.take_token(kind, endpoint)
     }
 

@@ -25,5 +25,5 @@ pub use promises::{
     reset_recovery_ends_every_halt_and_command,
     what_does_not_reach_the_bulk_endpoints_writes_nothing,
 };
-pub use state::{Addresses, Core, Expectation, Halts, Request, Transfer};
+pub use state::{Addresses, Bulk, Control, Core, Expectation, Halts, Request, Transfer};
 pub use transport::Toggles;

@@ -40,6 +40,7 @@ pub struct Receiving {
     ghost owed: { due + come < 4294967296 },
 }
 
+// A status waits with its block whether or not it has been sent, so the flag stands beside the block.
 #[derive(Clone, Copy)]
 pub enum Phase {
     Command,

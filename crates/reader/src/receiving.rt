@@ -1,21 +1,20 @@
 // Data that come from the host, and the sectors that they fill.
 ghost use Rattle.std.specs.Prelude.{◌≡◌, ◌+◌, ◌<◌, ◌≤◌, take};
-ghost use Rattle.reader.specs.Control.{with_bulk};
 ghost use Rattle.reader.specs.Disk.{disk_of, Left};
 ghost use Rattle.reader.specs.Stages.{sector_answered, take_data};
-ghost use Rattle.reader.specs.State.{seen};
+ghost use Rattle.reader.specs.State.{bulk_seen};
 ghost use Rattle.store.specs.Access.{write_answer};
 
 use super::phase::{Phase, Receiving};
-use super::state::Core;
+use super::state::Bulk;
 use store::{Store, StoreRefusal, Verdict};
 use transport::{DataDirection, Status, StatusBlock};
 
-impl Core {
+impl Bulk {
     // The store has answered a whole sector: the data go on, or are over.
     fn sector_answered(&mut self, receiving: Receiving, answer: Result<Verdict, StoreRefusal>)
         requires { (receiving.due + 512 < 4294967296) × (receiving.sector + 1 + receiving.left ≤ 67108864) }
-        ensures { seen self.new ≡ with_bulk (sector_answered self.old.toggles self.old.halts receiving.tag receiving.due receiving.left receiving.sector self.old.buffer answer).0 (seen self.old) }
+        ensures { bulk_seen self.new ≡ (sector_answered self.old.toggles self.old.halts receiving.tag receiving.due receiving.left receiving.sector self.old.buffer answer).0 }
     {
         let Receiving {
             tag,
@@ -60,7 +59,7 @@ impl Core {
 
     // A data packet is taken as data: its bytes join those of the sector that have come, and a whole sector is written.
     pub(crate) fn take_data<S: Store>(&mut self, store: &mut S, receiving: Receiving, body: &[u8])
-        ensures state { seen self.new ≡ with_bulk (take_data self.old.toggles self.old.halts (disk_of S.Store store.old) receiving.tag receiving.due receiving.left receiving.sector (take receiving.come self.old.buffer) body.now).0 (seen self.old) }
+        ensures state { bulk_seen self.new ≡ (take_data self.old.toggles self.old.halts (disk_of S.Store store.old) receiving.tag receiving.due receiving.left receiving.sector (take receiving.come self.old.buffer) body.now).0 }
         ensures disk { Left (take_data self.old.toggles self.old.halts (disk_of S.Store store.old) receiving.tag receiving.due receiving.left receiving.sector (take receiving.come self.old.buffer) body.now).1 (disk_of S.Store store.old) (disk_of S.Store store.new) }
     {
         let expected = receiving.left.min(64);

@@ -1,13 +1,12 @@
 // Data that go to the host: the packet that waits, and what its acknowledgement does.
 ghost use Rattle.std.specs.Prelude.{◌≡◌, min, take, drop};
-ghost use Rattle.reader.specs.Control.{with_bulk};
 ghost use Rattle.reader.specs.Disk.{disk_of};
 ghost use Rattle.reader.specs.Stages.{waiting, data_acknowledged};
-ghost use Rattle.reader.specs.State.{seen};
+ghost use Rattle.reader.specs.State.{bulk_seen};
 ghost use Rattle.transport.specs.Statuses.{status_bytes};
 
 use super::phase::{Phase, Sending, Source};
-use super::state::Core;
+use super::state::Bulk;
 use packet::Body;
 use store::Store;
 use transport::{DataDirection, Status, StatusBlock, capacity_reply};
@@ -42,10 +41,10 @@ pub(crate) fn waiting_body<S: Store>(store: &S, sending: Sending) -> Body
     }
 }
 
-impl Core {
+impl Bulk {
     // The packet that waited is acknowledged: the next one waits, or a status does.
     pub(crate) fn data_acknowledged(&mut self, sending: Sending)
-        ensures { seen self.new ≡ with_bulk (data_acknowledged self.old.toggles self.old.halts sending.tag sending.due sending.left sending.moved sending.source) (seen self.old) }
+        ensures { bulk_seen self.new ≡ data_acknowledged self.old.toggles self.old.halts sending.tag sending.due sending.left sending.moved sending.source }
     {
         let count = sending.left.min(64);
         let mut rest = sending;

@@ -1,19 +1,18 @@
 // The stages of a command: a block is taken, data move, a status is left.
 ghost use Rattle.std.specs.Prelude.{◌≡◌, ◌≤◌};
-ghost use Rattle.reader.specs.Control.{with_bulk};
 ghost use Rattle.reader.specs.Plans.{plan_seen, Bounded};
 ghost use Rattle.reader.specs.Stages.{if_due, over, begin, take_block};
-ghost use Rattle.reader.specs.State.{seen};
+ghost use Rattle.reader.specs.State.{bulk_seen};
 
 use super::phase::{Phase, Receiving, Sending};
 use super::planning::{Plan, plan_of};
-use super::state::{Core, Halts};
+use super::state::{Bulk, Halts};
 use transport::{Command, CommandBlock, DataDirection, Status, StatusBlock};
 
-impl Core {
+impl Bulk {
     // Data are over: the endpoint halts if bytes are still due, and a status waits.
     pub(crate) fn end_data(&mut self, direction: DataDirection, block: StatusBlock)
-        ensures { seen self.new ≡ with_bulk (over self.old.toggles self.old.halts direction block.tag block.residue block.status) (seen self.old) }
+        ensures { bulk_seen self.new ≡ over self.old.toggles self.old.halts direction block.tag block.residue block.status }
     {
         if block.residue > 0 {
             self.halts = self.halts.with(direction, true);
@@ -23,7 +22,7 @@ impl Core {
 
     fn begin(&mut self, block: CommandBlock, plan: Plan)
         requires { Bounded plan }
-        ensures { seen self.new ≡ with_bulk (begin self.old.toggles self.old.halts block (plan_seen plan)) (seen self.old) }
+        ensures { bulk_seen self.new ≡ begin self.old.toggles self.old.halts block (plan_seen plan) }
     {
         let status = match plan {
             Plan::Sends { source, bytes }
@@ -65,7 +64,7 @@ impl Core {
     // A data packet is taken as a command block.
     pub(crate) fn take_block(&mut self, size: u32, body: &[u8])
         requires { size ≤ 65536 }
-        ensures { seen self.new ≡ with_bulk (take_block self.old.toggles self.old.halts size body.now) (seen self.old) }
+        ensures { bulk_seen self.new ≡ take_block self.old.toggles self.old.halts size body.now }
     {
         match CommandBlock::read(body) {
             Ok(block) => self.begin(block, plan_of(Command::read(&block.command), size)),

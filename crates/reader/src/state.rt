@@ -1,6 +1,6 @@
 // The reader's state but for its store.
 ghost use Rattle.std.specs.Prelude.{◌≡◌};
-ghost use Rattle.reader.specs.State.{seen, fresh};
+ghost use Rattle.reader.specs.State.{bulk_seen, seen, fresh};
 
 use super::phase::Phase;
 use transport::{DataDirection, Toggles};
@@ -51,18 +51,43 @@ pub enum Halts {
     Invalid,
 }
 
-// Data in are those of the endpoint that sends (1 IN), data out those of the one that receives (2 OUT). The bytes of a
-// sector that is being received stand in the front of the buffer.
+// The control endpoint.
 #[derive(Clone, Copy)]
-pub struct Core {
+pub struct Control {
     pub addresses: Addresses,
     pub configured: bool,
     pub transfer: Transfer,
-    pub expects: Expectation,
+}
+
+// The bulk endpoints: data in are those of the one that sends (1 IN), data out those of the one that receives (2 OUT). The
+// bytes of a sector that is being received stand in the front of the buffer.
+#[derive(Clone, Copy)]
+pub struct Bulk {
     pub toggles: Toggles,
     pub halts: Halts,
     pub phase: Phase,
     pub buffer: [u8; 512],
+}
+
+#[derive(Clone, Copy)]
+pub struct Core {
+    pub control: Control,
+    pub bulk: Bulk,
+    pub expects: Expectation,
+}
+
+impl Bulk {
+    // As after a port reset.
+    pub(crate) fn fresh() -> Bulk
+        ensures { bulk_seen result ≡ fresh.bulk }
+    {
+        Bulk {
+            toggles: Toggles::fresh(),
+            halts: Halts::NONE,
+            phase: Phase::Command,
+            buffer: [0; 512],
+        }
+    }
 }
 
 impl Core {
@@ -71,14 +96,13 @@ impl Core {
         ensures { seen result ≡ fresh }
     {
         Core {
-            addresses: Addresses::One(0),
-            configured: false,
-            transfer: Transfer::None,
+            control: Control {
+                addresses: Addresses::One(0),
+                configured: false,
+                transfer: Transfer::None,
+            },
+            bulk: Bulk::fresh(),
             expects: Expectation::Nothing,
-            toggles: Toggles::fresh(),
-            halts: Halts::NONE,
-            phase: Phase::Command,
-            buffer: [0; 512],
         }
     }
 }
