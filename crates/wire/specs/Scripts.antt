@@ -1,9 +1,10 @@
 -- What the scripted wire does: one entry of its script for each sending.
-use Rattle.std.specs.Prelude.{ℕ, ◌+◌, ◌-◌, ◌*◌, ◌/◌, ◌%◌, Bool, true, false, cond, ◌&&◌, List, [], length, ◌==◌, nat_le, nat_lt, slice_index}
+use Rattle.std.specs.Prelude.{ℕ, ◌+◌, ◌-◌, ◌*◌, ◌/◌, ◌%◌, Bool, true, false, cond, ◌&&◌, List, [], length, if◌then◌else◌, ◌==◌, nat_le, nat_lt, slice_index}
 use Rattle.packet.specs.Promises.{bit_changed}
 use Rattle.packet.specs.Reading.{Reading, packet, refused, reading}
 use Rattle.wire.specs.declared.scripted.Entry.{Entry}
 use Rattle.wire.specs.declared.scripted.Entry.TheVariants.{Deliver, Lose, Flip}
+use Rattle.wire.specs.declared.scripted.ScriptedWire.{ScriptedWire}
 use Rattle.wire.specs.Carrying.{one_more}
 
 abbrev pub is_packet : Reading → Bool
@@ -53,3 +54,15 @@ spoils script place sent = cond (takes_entry sent) (entry_spoils (entry_at scrip
 
 abbrev pub tally_after : List ℕ → ℕ → List ℕ → ℕ → ℕ
 tally_after script place sent tally = cond (spoils script place sent) (one_more tally) tally
+
+-- the wire with its tally cleared
+abbrev pub cleared : ScriptedWire → ScriptedWire
+cleared w = record { script = w.script; place = w.place; tally = 0 }
+
+-- the wire once it has used an entry, if one is left
+abbrev pub after_entry : ScriptedWire → ScriptedWire
+after_entry w = record { script = w.script; place = if nat_lt w.place (length w.script.items) then w.place + 1 else w.place; tally = w.tally }
+
+-- the wire after a sending
+abbrev pub after_sending : List ℕ → ScriptedWire → ScriptedWire
+after_sending sent w = record { script = w.script; place = place_after w.script.items w.place sent; tally = tally_after w.script.items w.place sent w.tally }

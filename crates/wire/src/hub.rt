@@ -52,18 +52,6 @@ impl<F: Wire, S: Wire> Hub<F, S> {
         self.port = port;
     }
 
-    pub fn open(&mut self)
-        ensures { self.new ≡ with_port Open self.old }
-    {
-        self.set_port(Port::Open);
-    }
-
-    pub fn close(&mut self)
-        ensures { self.new ≡ with_port Closed self.old }
-    {
-        self.set_port(Port::Closed);
-    }
-
     pub fn port(&self) -> Port
         ensures { result ≡ self.now.port }
     {

@@ -1,8 +1,8 @@
 // The scripted wire: what it does to each packet stands in a list of entries.
-ghost use Rattle.std.specs.Prelude.{◌≡◌, ◌+◌, ◌<◌, ◌≤◌, length, if◌then◌else◌, nat_lt};
+ghost use Rattle.std.specs.Prelude.{◌≡◌, ◌<◌, ◌≤◌, length};
 ghost use Rattle.packet.specs.Reading.{reading};
 ghost use Rattle.wire.specs.Carrying.{Carries, laid};
-ghost use Rattle.wire.specs.Scripts.{entry_of, entry_at, is_packet, with_bit_flipped, unless_packet, scripted_arrival, place_after, tally_after};
+ghost use Rattle.wire.specs.Scripts.{entry_of, entry_at, is_packet, with_bit_flipped, unless_packet, scripted_arrival, cleared, after_entry, after_sending};
 
 use super::arrival::{grown, lay};
 use super::interface::{Direction, Wire};
@@ -65,9 +65,7 @@ impl ScriptedWire {
     // The entry for this sending; past its end a script delivers.
     fn next_entry(&mut self) -> Entry
         ensures value { result ≡ entry_at self.old.script.items self.old.place }
-        ensures place { self.new.place ≡ (if nat_lt self.old.place (length self.old.script.items) then self.old.place + 1 else self.old.place) }
-        ensures script { self.new.script ≡ self.old.script }
-        ensures tally { self.new.tally ≡ self.old.tally }
+        ensures after { self.new ≡ after_entry self.old }
     {
         let Some(number) = self.script.get(self.place) else {
             return Entry::Deliver;
@@ -103,9 +101,7 @@ impl Wire for ScriptedWire {
     ghost tally = { λ w. w.tally };
 
     fn clear(&mut self)
-        ensures tally { self.new.tally ≡ 0 }
-        ensures script { self.new.script ≡ self.old.script }
-        ensures place { self.new.place ≡ self.old.place }
+        ensures { self.new ≡ cleared self.old }
     {
         self.tally = 0;
     }
@@ -118,9 +114,7 @@ impl Wire for ScriptedWire {
         ensures carries { Carries sent.now self.old.tally result heard.new self.new.tally }
         ensures count { result ≡ length (scripted_arrival self.old.script.items self.old.place sent.now) }
         ensures memory { heard.new ≡ laid (scripted_arrival self.old.script.items self.old.place sent.now) }
-        ensures place { self.new.place ≡ place_after self.old.script.items self.old.place sent.now }
-        ensures tally { self.new.tally ≡ tally_after self.old.script.items self.old.place sent.now self.old.tally }
-        ensures script { self.new.script ≡ self.old.script }
+        ensures after { self.new ≡ after_sending sent.now self.old }
     {
         let nothing_sent = sent.is_empty();
         if nothing_sent {
