@@ -1,14 +1,13 @@
 -- Failed tries of fetching a packet are paid for by spoiled packets, or by an ACK that was spoiled before.
-use Rattle.std.proofs.Common.{◌≡◌, ℕ, zero, suc, ◌+◌, ◌≤◌, Bool, true, false, List, sym, refl, ◌∙◌, subst, arith}
+use Rattle.std.proofs.Common.{◌≡◌, ℕ, zero, suc, ◌+◌, ◌≤◌, Bool, true, false, List, sym, ◌∙◌, subst, arith}
 use Rattle.packet.specs.declared.kind.DataKind.{DataKind}
-use Rattle.packet.specs.declared.kind.DataKind.TheVariants.{Data0, Data1}
 use Rattle.packet.specs.declared.kind.Handshake.TheVariants.{Ack}
 use Rattle.packet.specs.declared.kind.TokenKind.TheVariants.{In}
 use Rattle.packet.specs.Parts.{token, data_packet, handshake}
 use Rattle.reader.specs.declared.state.Expectation.TheVariants.{Nothing, BulkAck}
 use Rattle.reader.specs.declared.state.Transfer.{Transfer}
 use Rattle.reader.specs.Answers.{Answer, says}
-use Rattle.reader.specs.BulkEnds.{unwritten, turned, same_kind}
+use Rattle.reader.specs.BulkEnds.{unwritten, turned}
 use Rattle.reader.specs.Disk.{Disk}
 use Rattle.reader.specs.State.{State}
 use Rattle.store.specs.declared.answers.Verdict.{Verdict}
@@ -19,14 +18,7 @@ use Rattle.host.specs.Deliveries.{attached, world}
 use Rattle.host.specs.Fetches.{sent_once, Fetching, Waits, level, level_sent, behind, ended, unended, Fetches, fetched, given_up, FailedFetchesArePaidFor}
 use Rattle.host.specs.Process.{World, done, Runs, exchange, answered}
 use Rattle.host.specs.Transactions.{Ending, passed, fetches, judged_data, judged_fetched}
-
-same_as_itself : (k : DataKind) → same_kind k k ≡ true
-same_as_itself Data0 = refl
-same_as_itself Data1 = refl
-
-not_its_other : (k : DataKind) → same_kind (turned k) k ≡ false
-not_its_other Data0 = refl
-not_its_other Data1 = refl
+use Rattle.host.proofs.Toggles.{same_as_itself, not_its_other}
 
 module _ {t : Transfer} {d : Disk} {toggle : DataKind} (k : Fetching t d toggle) (fits : List ℕ → Bool) (fit : fits k.now.body ≡ true) where
   more : (tries from pending next later : ℕ) (e : Ending (List ℕ)) (w : World) → from + 1 + later ≤ next + pending → Fetches k tries next later e w → Fetches k (suc tries) from pending e w

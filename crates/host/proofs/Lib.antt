@@ -4,5 +4,6 @@ pub mod Fetches
 pub mod Performing
 pub mod Settling
 pub mod ShortBodies
+pub mod Toggles
 pub mod Transferring
 pub mod Trying

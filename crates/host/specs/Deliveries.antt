@@ -19,7 +19,7 @@ use Rattle.host.specs.declared.fault.Cause.{Cause}
 use Rattle.host.specs.Process.{World, written_on, Runs}
 use Rattle.host.specs.Transactions.{Ending, passed, gave_up, delivers}
 
--- a reader at address 1, configured
+-- a reader at address 1, hearing no other, configured
 abbrev pub attached : Transfer → Bulk → Expectation → State
 attached t b e = record { control = record { addresses = One 1; configured = true; transfer = t }; bulk = b; expects = e }
 

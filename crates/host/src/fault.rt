@@ -31,14 +31,6 @@ impl From<Cause> for u8 {
     }
 }
 
-impl Cause {
-    pub fn number(self) -> u8
-        ensures { result ≡ cause_number self }
-    {
-        u8::from(self)
-    }
-}
-
 // Where in a command, or outside one.
 #[derive(Clone, Copy, PartialEq, Eq)]
 pub enum Stage {

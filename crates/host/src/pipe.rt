@@ -12,11 +12,11 @@ pub enum Address {
     Assigned,
 }
 
-impl Address {
-    fn number(self) -> u8
-        ensures { result ≡ address_number self }
-    {
-        match self {
+impl From<Address> for u8 {
+    ghost from_gives = { λ address number. number ≡ address_number address };
+
+    fn from(address: Address) -> u8 {
+        match address {
             Address::Default => 0,
             Address::Assigned => 1,
         }
@@ -36,8 +36,8 @@ impl Pipe {
         ensures { parts result.packet ≡ out_token self }
     {
         let packet = match self {
-            Pipe::Control(address) => Packet::token(TokenKind::Setup, address.number(), 0),
-            Pipe::Bulk => Packet::token(TokenKind::Out, Address::Assigned.number(), 2),
+            Pipe::Control(address) => Packet::token(TokenKind::Setup, address.into(), 0),
+            Pipe::Bulk => Packet::token(TokenKind::Out, Address::Assigned.into(), 2),
         };
         WellFormed { packet }
     }
@@ -47,8 +47,8 @@ impl Pipe {
         ensures { parts result.packet ≡ in_token self }
     {
         let packet = match self {
-            Pipe::Control(address) => Packet::token(TokenKind::In, address.number(), 0),
-            Pipe::Bulk => Packet::token(TokenKind::In, Address::Assigned.number(), 1),
+            Pipe::Control(address) => Packet::token(TokenKind::In, address.into(), 0),
+            Pipe::Bulk => Packet::token(TokenKind::In, Address::Assigned.into(), 1),
         };
         WellFormed { packet }
     }

@@ -35,7 +35,7 @@ use Rattle.host_laws.specs.InStep.{attached, at_address_1, bulk_at, awaiting, un
 use Rattle.host_laws.specs.Stages.{begun_with, Opening, taken, given_up as opening-given-up, ABlockIsTakenOrIsPaidFor}
 use Rattle.host_laws.proofs.Chains.{halfway, stays}
 use Rattle.host_laws.proofs.Deliveries.{failed_deliveries_are_paid_for}
-use Rattle.host_laws.proofs.Toggles.{same_as_itself, not_as_turned, turned_twice}
+use Rattle.host.proofs.Toggles.{same_as_itself, not_as_turned, turned_twice}
 
 -- whatever a command comes to, its beginning leaves the toggles as they are
 begins_or_is_over : (b : Bool) (v : Bulk) (w : Bulk) (k : DataKind) → v.toggles.data_out ≡ k → w.toggles.data_out ≡ k → (cond b v w).toggles.data_out ≡ k

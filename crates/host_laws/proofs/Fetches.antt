@@ -19,7 +19,7 @@ use Rattle.host.specs.Transactions.{Ending, passed}
 use Rattle.host.specs.Tries.{fits, fetches, fetch_data, fetch_of, by_fetch}
 use Rattle.host_laws.specs.Deliveries.{world}
 use Rattle.host_laws.specs.Fetches.{Waiting, Behind, Waits, level, level_sent, behind, ended, unended, Fetches, fetched, given_up, FailedFetchesArePaidFor, Halted, Unfetched, met_stall, given_up as refused-no-more, AHaltedEndpointSendsNothing}
-use Rattle.host_laws.proofs.Toggles.{same_as_itself, not_its_other}
+use Rattle.host.proofs.Toggles.{same_as_itself, not_its_other}
 
 module _ (t : TokenKind) (address endpoint : ℕ) (toggle : DataKind) (fit : Option ℕ) (d : Disk) where
   abbrev Tries : ℕ → Cause → Process (Ending (List ℕ))

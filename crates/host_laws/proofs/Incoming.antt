@@ -34,7 +34,7 @@ use Rattle.host_laws.proofs.Attached.{was_attached, attached_whatever_is_expecte
 use Rattle.host_laws.proofs.Buffers.{length_part, length_laid, the_front_grows}
 use Rattle.host_laws.proofs.Chains.{halfway, stays}
 use Rattle.host_laws.proofs.Fetches.{failed_fetches_are_paid_for}
-use Rattle.host_laws.proofs.Toggles.{turned_twice}
+use Rattle.host.proofs.Toggles.{turned_twice}
 
 -- the status of a command all of whose data have moved
 abbrev pub all_moved : ℕ → StatusBlock

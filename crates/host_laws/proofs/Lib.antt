@@ -17,6 +17,5 @@ pub mod Sectors
 pub mod Statuses
 pub mod Stopped
 pub mod Tests
-pub mod Toggles
 pub mod Transfers
 pub mod Writes

@@ -40,7 +40,7 @@ use Rattle.host_laws.proofs.Chains.{halfway, stays}
 use Rattle.host_laws.proofs.Deliveries.{failed_deliveries_are_paid_for, a_halted_endpoint_refuses_data}
 use Rattle.host_laws.proofs.Putting.{sector_in, packet_in, put_next, packet_length, packet_goes_on}
 use Rattle.host_laws.proofs.Recovering.{clearing_outward}
-use Rattle.host_laws.proofs.Toggles.{same_as_itself, not_as_turned}
+use Rattle.host.proofs.Toggles.{same_as_itself, not_as_turned}
 use Rattle.host_laws.proofs.Transfers.{a_control_transfer_is_done_or_paid_for}
 
 pub still_attached : (e : Expectation) (s : State) → Attached s → Attached (expecting e s)

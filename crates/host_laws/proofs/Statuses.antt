@@ -30,7 +30,7 @@ use Rattle.host_laws.specs.Stages.{with_status, level as status-level, behind as
 use Rattle.host_laws.proofs.Attached.{was_attached, attached_whatever_is_expected}
 use Rattle.host_laws.proofs.Chains.{halfway, stays}
 use Rattle.host_laws.proofs.Fetches.{failed_fetches_are_paid_for}
-use Rattle.host_laws.proofs.Toggles.{turned_twice}
+use Rattle.host.proofs.Toggles.{turned_twice}
 
 read_back : (o : DataOver) (b : StatusBlock) → b.tag ≡ o.tag → o.tag < 2 ^ 32 → b.residue ≤ o.length → o.length < 2 ^ 32 → status_read (status_bytes b) o.tag o.length ≡ Ok b
 read_back o b same narrow less short =

@@ -14,12 +14,10 @@ use Rattle.reader.specs.Hears.{hears, awaits}
 use Rattle.reader.specs.State.{State}
 use Rattle.store.specs.declared.answers.Verdict.{Verdict}
 use Rattle.host.specs.declared.fault.Cause.{Cause}
+pub use Rattle.host.specs.Deliveries.{world}
 use Rattle.host.specs.Process.{World, written_on, Runs}
 use Rattle.host.specs.Transactions.{Ending, passed, stalled, gave_up}
 use Rattle.host.specs.Tries.{delivers}
-
-abbrev pub world : ℕ → State → Disk → World
-world n s d = record { reader = s; disk = d; spoiled = n }
 
 -- data that the reader takes once: its state before the token, after it, and after the data; once it has taken them, the
 -- same data are a repeat

@@ -1,26 +1,17 @@
 -- When the two ends of the link agree.
 use Rattle.std.specs.Prelude.{◌≡◌, ℕ, ◌<◌, ◌≤◌, true, false, [], length, slice_index_or}
-use Rattle.packet.specs.declared.kind.DataKind.{DataKind}
-use Rattle.reader.specs.declared.state.Addresses.TheVariants.{One}
 use Rattle.reader.specs.declared.state.Expectation.{Expectation}
-use Rattle.reader.specs.declared.state.Halts.{Halts}
 use Rattle.reader.specs.declared.state.Halts.TheVariants.{Each}
 use Rattle.reader.specs.declared.state.Transfer.{Transfer}
 use Rattle.reader.specs.BulkEnds.{turned}
 use Rattle.reader.specs.Disk.{Disk}
-use Rattle.reader.specs.State.{State, Bulk, Phase, command, status}
+use Rattle.reader.specs.State.{State, Bulk, command, status}
+pub use Rattle.host.specs.Deliveries.{attached, bulk_at}
 use Rattle.transport.specs.declared.statuses.StatusBlock.{StatusBlock}
 use Rattle.transport.specs.declared.toggles.Toggles.{Toggles}
 
--- a reader at address 1, hearing no other, configured
-abbrev pub attached : Transfer → Bulk → Expectation → State
-attached x b e = record { control = record { addresses = One 1; configured = true; transfer = x }; bulk = b; expects = e }
-
 pub data Attached : State → Type 0 where
   at_address_1 : (x : Transfer) (b : Bulk) (e : Expectation) → Attached (attached x b e)
-
-abbrev pub bulk_at : (sending receiving : DataKind) → Halts → Phase → Bulk
-bulk_at sending receiving h p = record { toggles = record { data_in = sending; data_out = receiving }; halts = h; phase = p }
 
 -- the ends are in step: no halt, and either the toggles are equal and the reader awaits a block, or a status was sent and
 -- has had no ACK, and only the toggles of the data to the host are opposite

@@ -2,7 +2,7 @@
 use Rattle.std.proofs.Common.{◌≡◌, true, false, refl}
 use Rattle.packet.specs.declared.kind.DataKind.{DataKind}
 use Rattle.packet.specs.declared.kind.DataKind.TheVariants.{Data0, Data1}
-use Rattle.reader.specs.BulkEnds.{turned, same_kind}
+use Rattle.packet.specs.Kinds.{turned, same_kind}
 
 pub same_as_itself : (k : DataKind) → same_kind k k ≡ true
 same_as_itself Data0 = refl
