@@ -7,7 +7,8 @@ use super::check::{body_check, token_check};
 use super::{DataKind, Handshake, Kind, Packet, Refusal, TokenKind, WellFormed};
 
 impl Packet<'_> {
-    // A part that is too wide for its field is refused, and the memory is left alone.
+    // A part that is too wide for its field is refused, and the memory is left alone. The memory is a fixed one, with the
+    // length beside it, since packets are built without a heap.
     pub fn build(self, out: &mut [u8; 67]) -> Result<usize, Refusal>
         ensures answer { result ≡ build_answer (parts self.entry) }
         ensures memory { out.new ≡ build_memory (parts self.entry) out.old }

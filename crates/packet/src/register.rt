@@ -57,7 +57,8 @@ impl Check for Crc16 {
     ghost lawful = { odd_generator_is_lawful 15 0x8005 refl };
 }
 
-// A register in use: its content, and the rule by which it takes bits.
+// A register in use: its content, and the rule by which it takes bits. What its methods promise holds of any content, so
+// that the content fits the width is no fact of the type.
 #[derive(Drop)]
 pub struct Register<R: Check> {
     content: u16,
@@ -88,7 +89,8 @@ impl<R: Check> Register<R> {
         };
     }
 
-    // The lowest bits of a number, so many of them, the lowest first.
+    // The lowest bits of a number, so many of them, the lowest first. The number is halved and not shifted, since a count
+    // may be more than its bits.
     pub fn take_low_bits(&mut self, number: u8, count: u8)
         ensures { self.new.content ≡ fed R.WIDTH R.GENERATOR self.old.content (bits count number) }
     {

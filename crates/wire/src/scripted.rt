@@ -29,6 +29,7 @@ impl From<u16> for Entry {
     }
 }
 
+// The script is handed back whole, so how far it has been used is a place beside it, and no iterator.
 #[derive(Drop)]
 pub struct ScriptedWire {
     script: Vec<u16>,
