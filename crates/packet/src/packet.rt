@@ -18,6 +18,7 @@ pub enum Packet<'a> {
     Handshake(Handshake),
 }
 
+// Each packet is made by a function, which promises the parts that it has.
 impl<'a> Packet<'a> {
     pub fn token(kind: TokenKind, address: u8, endpoint: u8) -> Self
         ensures { parts result ≡ token kind address endpoint }
