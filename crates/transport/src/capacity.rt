@@ -1,4 +1,5 @@
-// The capacity reply, by which the device tells how many sectors it has.
+// The capacity reply, by which the device tells how many sectors it has. A size is a plain number, so these are functions
+// and no conversions.
 ghost use Rattle.std.specs.Prelude.{◌≡◌};
 ghost use Rattle.transport.specs.Capacity.{capacity_bytes, capacity_of};
 

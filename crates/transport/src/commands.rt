@@ -1,4 +1,5 @@
-// The commands that a command block carries, in 16 bytes.
+// The commands that a command block carries, in 16 bytes. As for blocks, what reads and what gives bytes are methods: a
+// conversion would not say which bytes.
 ghost use Rattle.std.specs.Prelude.{◌≡◌};
 ghost use Rattle.transport.specs.Commands.{command_of, command_bytes, command_size, coded_bytes};
 

@@ -8,6 +8,7 @@ use score::Score;
 mod noise;
 mod published;
 mod refusals;
+mod refused;
 mod score;
 mod stores;
 mod there_and_back;

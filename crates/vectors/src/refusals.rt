@@ -1,23 +1,20 @@
 // The examples of each refusal.
+use super::refused::refused_by;
 use super::score::Score;
 use packet::{DataKind, Packet, TokenKind, read};
 
-fn refused_by(bytes: &[u8], number: u8) -> bool {
-    read(bytes).is_err_and(|refusal| u8::from(refusal) == number)
-}
-
 pub fn reading(rt: &HostRuntime) -> anyhow::Result<Score> {
     let mut score = Score::default();
-    score.count(refused_by(&[], 20));
-    score.count(refused_by(&[0xe0], 21));
-    score.count(refused_by(&[0xf0], 22));
-    score.count(refused_by(&[0x4b, 0x00], 23));
-    score.count(refused_by(&[0x69, 0x81], 23));
-    score.count(refused_by(&[0x69, 0x81, 0x58, 0x00], 23));
-    score.count(refused_by(&[0xd2, 0x00], 23));
-    score.count(refused_by(&[0xc3; 68], 23));
-    score.count(refused_by(&[0x69, 0x81, 0x59], 24));
-    score.count(refused_by(&[0x4b, 0x00, 0x01], 24));
+    score.count(refused_by(read(&[]), 20));
+    score.count(refused_by(read(&[0xe0]), 21));
+    score.count(refused_by(read(&[0xf0]), 22));
+    score.count(refused_by(read(&[0x4b, 0x00]), 23));
+    score.count(refused_by(read(&[0x69, 0x81]), 23));
+    score.count(refused_by(read(&[0x69, 0x81, 0x58, 0x00]), 23));
+    score.count(refused_by(read(&[0xd2, 0x00]), 23));
+    score.count(refused_by(read(&[0xc3; 68]), 23));
+    score.count(refused_by(read(&[0x69, 0x81, 0x59]), 24));
+    score.count(refused_by(read(&[0x4b, 0x00, 0x01]), 24));
     println!(rt; "refusals of reading: {score}")?;
     Ok(score)
 }
@@ -25,8 +22,7 @@ pub fn reading(rt: &HostRuntime) -> anyhow::Result<Score> {
 // The packet is refused by 23, and the memory is as it was.
 fn too_wide(packet: Packet<'_>) -> bool {
     let mut memory = [0xa5; 67];
-    let answer = packet.build(&mut memory);
-    answer.is_err_and(|refusal| u8::from(refusal) == 23) && memory == [0xa5; 67]
+    refused_by(packet.build(&mut memory), 23) && memory == [0xa5; 67]
 }
 
 fn token_too_wide(address: u8, endpoint: u8) -> bool {
