@@ -1,4 +1,4 @@
-// A body that is held by itself: at most 64 bytes, with zeros behind them in its memory.
+// A body that is held by itself: at most 64 bytes, with zeros behind them. Its memory is fixed, since there is no heap.
 ghost use Rattle.std.specs.Prelude.{◌≡◌, ◌≤◌, [], length, take};
 
 use std::marker::Model;

@@ -147,6 +147,7 @@ impl<S: Store> Reader<S> {
     }
 
     // Hears an arrival, nothing too, and answers it: the answer's bytes fill the front of the memory, and zeros the rest.
+    // The memory is the caller's, of the size of the longest packet, since there is no heap.
     pub fn hear(&mut self, arrival: &[u8], answer: &mut [u8; 67]) -> usize
         ensures state { seen self.new.core ≡ (hears (seen self.old.core) (disk_of S.Store self.old.store) (reading arrival.now)).state }
         ensures count { result ≡ length (answer_bytes (hears (seen self.old.core) (disk_of S.Store self.old.store) (reading arrival.now)).answer) }
