@@ -18,7 +18,8 @@ pub(crate) struct Bus<'a, W: Wire, S: Store> {
 }
 
 impl<W: Wire, S: Store> Bus<'_, W, S> {
-    // Answers what came home, in the front of the memory.
+    // Answers what came home, in the front of the memory. There is no heap: the wire and the reader fill memory of a fixed
+    // size, and answer how much of it.
     pub(crate) fn exchange<'h>(
         &mut self,
         packet: WellFormed<'_>,
