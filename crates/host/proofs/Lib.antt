@@ -3,7 +3,6 @@ pub mod Exchanging
 pub mod Fetches
 pub mod Performing
 pub mod Settling
-pub mod ShortBodies
 pub mod Toggles
 pub mod Transferring
 pub mod Trying
