@@ -1,4 +1,5 @@
-// Runs the scripts in data/, whose expected output comes from an independent model of the rules.
+// Runs the scripts in data/, whose expected output comes from an independent model of the rules. A program of its own beside
+// the bench, which has help and reads standard input too: one for both would need an argument to tell them apart.
 #![tactic(auto)]
 
 use anyhow::anyhow;
