@@ -46,7 +46,12 @@ fn attach(rt: &HostRuntime, name: &str, first: &[u16], port: Port) -> anyhow::Re
 
 fn main(rt: HostRuntime) -> anyhow::Result<()> {
     attach(&rt, "nothing spoiled", &[], Port::Open)?;
-    attach(&rt, "the first SETUP lost on its way out", &[65535], Port::Open)?;
+    attach(
+        &rt,
+        "the first SETUP lost on its way out",
+        &[65535],
+        Port::Open,
+    )?;
     attach(
         &rt,
         "the first ACK lost on its way home",
