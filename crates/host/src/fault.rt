@@ -1,7 +1,10 @@
 // Why a transaction was given up, and where.
 ghost use Rattle.std.specs.Prelude.{◌≡◌, Some};
+ghost use Rattle.packet.specs.Refusals.{refusal_number};
 ghost use Rattle.host.specs.Faults.{cause_number, located, stage_name, tagged};
+ghost use Rattle.host.specs.Transactions.{cause_of};
 
+use packet::Refusal;
 use std::fmt;
 
 // The cause of the last try: nothing came, the answer was damaged or unfitting, a repeat came, NAK came, STALL came, or a
@@ -27,6 +30,22 @@ impl From<Cause> for u8 {
             Cause::NotReady => 4,
             Cause::Stalled => 5,
             Cause::WrongReply => 6,
+        }
+    }
+}
+
+// Where no packet was read, no byte came, or the bytes were damaged.
+impl From<Refusal> for Cause {
+    ghost from_gives = { λ refusal cause. cause ≡ cause_of (refusal_number refusal) };
+
+    fn from(refusal: Refusal) -> Cause {
+        match refusal {
+            Refusal::NoBytes => Cause::Nothing,
+            Refusal::WrongComplement
+            | Refusal::UnknownKind
+            | Refusal::WrongLength
+            | Refusal::TooWide
+            | Refusal::WrongCheck => Cause::Damaged,
         }
     }
 }

@@ -20,6 +20,7 @@ pub struct Host {
     pub(crate) tag: u32,
 }
 
+// Each call says that the tag stays, as its run tells the toggles and the bus only.
 impl Host {
     // The tags of commands begin at 1.
     pub fn new() -> Host

@@ -1,14 +1,12 @@
 // What the host makes of what it hears: the one place where an answer is judged.
 ghost use Rattle.std.specs.Prelude.{◌≡◌};
 ghost use Rattle.packet.specs.Reading.{reading};
-ghost use Rattle.packet.specs.Refusals.{refusal_number};
 ghost use Rattle.packet.specs.Kinds.{same_kind};
 ghost use Rattle.host.specs.Arrivals.{arrival_seen};
-ghost use Rattle.host.specs.Transactions.{cause_of};
 ghost use Rattle.host.specs.Tries.{reply_of, fits, fetch_data, fetch_of};
 
 use super::fault::Cause;
-use packet::{Body, DataKind, Handshake, Packet, Refusal, read};
+use packet::{Body, DataKind, Handshake, Packet, read};
 
 // The answer to data that were sent: three outcomes, of which the host handles each in its own way.
 #[derive(Clone, Copy)]
@@ -27,24 +25,11 @@ pub enum Arrival {
     Failed(Cause),
 }
 
-fn cause_of(refusal: Refusal) -> Cause
-    ensures { result ≡ cause_of (refusal_number refusal) }
-{
-    match refusal {
-        Refusal::NoBytes => Cause::Nothing,
-        Refusal::WrongComplement
-        | Refusal::UnknownKind
-        | Refusal::WrongLength
-        | Refusal::TooWide
-        | Refusal::WrongCheck => Cause::Damaged,
-    }
-}
-
 pub(crate) fn judge_reply(heard: &[u8]) -> Reply
     ensures { result ≡ reply_of (reading heard.now) }
 {
     match read(heard) {
-        Err(refusal) => Reply::Failed(cause_of(refusal)),
+        Err(refusal) => Reply::Failed(refusal.into()),
         Ok(Packet::Token { .. } | Packet::Data { .. }) => Reply::Failed(Cause::Damaged),
         Ok(Packet::Handshake(Handshake::Ack)) => Reply::Acknowledged,
         Ok(Packet::Handshake(Handshake::Nak)) => Reply::Failed(Cause::NotReady),
@@ -71,7 +56,7 @@ pub(crate) fn judge_arrival(heard: &[u8], toggle: DataKind, length: Option<usize
     ensures { arrival_seen result ≡ fetch_of toggle length (reading heard.now) }
 {
     match read(heard) {
-        Err(refusal) => Arrival::Failed(cause_of(refusal)),
+        Err(refusal) => Arrival::Failed(refusal.into()),
         Ok(Packet::Data { kind, body }) => judge_data(kind, Body::of(body), toggle, length),
         Ok(Packet::Token { .. } | Packet::Handshake(Handshake::Ack)) => {
             Arrival::Failed(Cause::Damaged)

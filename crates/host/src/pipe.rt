@@ -42,7 +42,8 @@ impl Pipe {
         WellFormed { packet }
     }
 
-    // Asks for data from the reader.
+    // Asks for data from the reader. The two tokens of a pipe differ in kind and in endpoint; one method with a direction
+    // would only move this match.
     pub(crate) fn in_token<'a>(self) -> WellFormed<'a>
         ensures { parts result.packet ≡ in_token self }
     {
