@@ -5,7 +5,8 @@ ghost use Rattle.packet.specs.Reading.{heard, reading, reading_token, reading_da
 use super::check::{body_check, token_check};
 use super::{DataKind, Handshake, Kind, Packet, Refusal, TokenKind};
 
-// The packet that the bytes are, or why they are none.
+// The packet that the bytes are, or why they are none. Reading and building have these names for every format, and `TryFrom`
+// would name the one and not the other.
 pub fn read(bytes: &[u8]) -> Result<Packet<'_>, Refusal>
     ensures { heard result ≡ reading bytes.now }
 {

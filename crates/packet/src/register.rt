@@ -1,5 +1,5 @@
 // Check registers: one generic register, and the two rules that USB has for it.
-ghost use Rattle.std.specs.Prelude.{◌≡◌, ℕ, ◌+◌, ◌-◌, ◌*◌, ◌^◌, ◌<◌, ◌≤◌, refl};
+ghost use Rattle.std.specs.Prelude.{◌≡◌, ℕ, ◌-◌, ◌*◌, ◌^◌, ◌<◌, ◌≤◌, refl};
 ghost use Rattle.packet.specs.Lawful.{Sized, Lawful};
 ghost use Rattle.packet.specs.Bits.{bits, bits_of};
 ghost use Rattle.packet.specs.Registers.{all_ones, taken, fed, finished, mirrored};

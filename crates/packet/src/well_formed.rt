@@ -30,6 +30,7 @@ impl Packet<'_> {
 }
 
 impl<'a> WellFormed<'a> {
+    // No `TryFrom`, so that whether, what and why not are three clauses with names.
     pub fn new(packet: Packet<'a>) -> Result<Self, Refusal>
         ensures variant { IsOk result ↔ (can_be_built (parts packet.entry) ≡ true) }
         ensures ok { IfOk result (λ well_formed. well_formed.packet ≡ packet.entry) }

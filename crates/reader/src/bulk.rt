@@ -4,7 +4,7 @@ ghost use Rattle.packet.specs.Parts.{data_packet};
 ghost use Rattle.reader.specs.Answers.{answer_seen};
 ghost use Rattle.reader.specs.BulkEnds.{ComesTo, wanted, bulk_data, offered, bulk_in, bulk_acknowledged, bulk_ack};
 ghost use Rattle.reader.specs.Control.{with_bulk};
-ghost use Rattle.reader.specs.Disk.{disk_of, Left};
+ghost use Rattle.reader.specs.Disk.{disk_of};
 ghost use Rattle.reader.specs.State.{bulk_seen, seen};
 
 use super::answer::Answer;

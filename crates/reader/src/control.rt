@@ -1,5 +1,5 @@
 // The control endpoint: addresses, requests and what they do.
-ghost use Rattle.std.specs.Prelude.{◌≡◌, ◌+◌, ◌*◌, length};
+ghost use Rattle.std.specs.Prelude.{◌≡◌};
 ghost use Rattle.reader.specs.Answers.{answer_seen};
 ghost use Rattle.reader.specs.Control.{addressed, settled, acknowledged, heard_too, clear_asked, asked, begun, halt_cleared, transport_reset, effect, control_in, setup_data, control_data, control_ack, expecting, with_control, with_addresses};
 ghost use Rattle.reader.specs.State.{bulk_seen, seen};
@@ -141,10 +141,7 @@ impl Core {
         ensures { (seen self.new, answer_seen result) ≡ setup_data (seen self.old) kind body.now }
     {
         self.expects = Expectation::Nothing;
-        let DataKind::Data0 = kind else {
-            return Answer::Nothing;
-        };
-        if body.len() != 8 {
+        if kind != DataKind::Data0 || body.len() != 8 {
             return Answer::Nothing;
         }
         let value = u16::from_le_bytes([body[2], body[3]]);

@@ -9,6 +9,8 @@ use super::planning::{Plan, plan_of};
 use super::state::{Bulk, Halts};
 use transport::{Command, CommandBlock, DataDirection, Status, StatusBlock};
 
+// The clauses of these methods name toggles and halts, and not the whole of the bulk endpoints, since the phase is put anew by
+// each.
 impl Bulk {
     // Data are over: the endpoint halts if bytes are still due, and a status waits.
     pub(crate) fn end_data(&mut self, direction: DataDirection, block: StatusBlock)

@@ -1,6 +1,5 @@
-// The command block, by which a command is sent: building it into its 31 bytes and reading it from bytes. These are no
-// conversions, here and for status blocks, since building fills the caller's memory and a status is read against its
-// command.
+// The command block, by which a command is sent: building it into its 31 bytes and reading it from bytes. `build` and `read`
+// are the two halves of a format, here and for status blocks; `TryFrom` would name the one and not the other.
 ghost use Rattle.std.specs.Prelude.{◌≡◌};
 ghost use Rattle.transport.specs.Blocks.{flags, direction_said, block_answer, block_memory, block_read, can_be_sent};
 

@@ -23,7 +23,7 @@ impl Toggles {
         }
     }
 
-    pub fn of(self, direction: DataDirection) -> DataKind
+    fn of(self, direction: DataDirection) -> DataKind
         ensures { result ≡ toggle_of direction self }
     {
         match direction {
