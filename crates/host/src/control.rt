@@ -6,6 +6,7 @@ ghost use Rattle.host.specs.Transfers.{request_setup, placed_as, transfers};
 
 use super::bus::Bus;
 use super::fault::{Cause, Place, Stage, TransactionFault, TransportFault};
+use super::judging::Awaited;
 use super::pipe::{Address, Pipe};
 use super::transaction::Transacted;
 use packet::{Body, DataKind};
@@ -68,7 +69,11 @@ impl<W: Wire, S: Store> Bus<'_, W, S> {
     {
         let sent = self.deliver(Pipe::Control(address), DataKind::Data0, &request.setup());
         placed(sent, SETUP)?;
-        let reply = self.fetch(Pipe::Control(address), DataKind::Data1, None);
+        let awaited = Awaited {
+            toggle: DataKind::Data1,
+            length: None,
+        };
+        let reply = self.fetch(Pipe::Control(address), awaited);
         placed(reply, REPLY)?;
         Ok(())
     }

@@ -37,27 +37,36 @@ pub(crate) fn judge_reply(heard: &[u8]) -> Reply
     }
 }
 
-// Data that came after an IN; those with the toggle that is not awaited are a repeat. New data fit if any number of bytes
-// does, or if they are as many as this.
-fn judge_data(kind: DataKind, body: Body, toggle: DataKind, length: Option<usize>) -> Arrival
-    ensures { arrival_seen result ≡ fetch_data (same_kind kind toggle) (fits length body) body }
+// The data that are awaited: their toggle, and how many bytes they are, where that matters.
+#[derive(Clone, Copy)]
+pub(crate) struct Awaited {
+    pub(crate) toggle: DataKind,
+    pub(crate) length: Option<usize>,
+}
+
+// Data that came after an IN; those with the toggle that is not awaited are a repeat.
+fn judge_data(kind: DataKind, body: Body, awaited: Awaited) -> Arrival
+    ensures { arrival_seen result ≡ fetch_data (same_kind kind awaited.toggle) (fits awaited.length body) body }
 {
-    if kind != toggle {
+    if kind != awaited.toggle {
         return Arrival::Repeat;
     }
-    if length.is_none_or(|length| body.as_slice().len() == length) {
+    if awaited
+        .length
+        .is_none_or(|length| body.as_slice().len() == length)
+    {
         Arrival::New(body)
     } else {
         Arrival::Failed(Cause::Damaged)
     }
 }
 
-pub(crate) fn judge_arrival(heard: &[u8], toggle: DataKind, length: Option<usize>) -> Arrival
-    ensures { arrival_seen result ≡ fetch_of toggle length (reading heard.now) }
+pub(crate) fn judge_arrival(heard: &[u8], awaited: Awaited) -> Arrival
+    ensures { arrival_seen result ≡ fetch_of awaited.toggle awaited.length (reading heard.now) }
 {
     match read(heard) {
         Err(refusal) => Arrival::Failed(refusal.into()),
-        Ok(Packet::Data { kind, body }) => judge_data(kind, Body::of(body), toggle, length),
+        Ok(Packet::Data { kind, body }) => judge_data(kind, Body::of(body), awaited),
         Ok(Packet::Token { .. } | Packet::Handshake(Handshake::Ack)) => {
             Arrival::Failed(Cause::Damaged)
         }

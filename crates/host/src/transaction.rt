@@ -8,7 +8,7 @@ ghost use Rattle.host.specs.Tries.{ending_seen, tries_delivery, delivers, sends_
 
 use super::bus::Bus;
 use super::fault::{Cause, TransactionFault};
-use super::judging::{Arrival, Reply, judge_arrival, judge_reply};
+use super::judging::{Arrival, Awaited, Reply, judge_arrival, judge_reply};
 use super::pipe::Pipe;
 use packet::{Body, DataKind, Handshake, WellFormed};
 use store::Store;
@@ -54,12 +54,12 @@ impl<W: Wire, S: Store> Bus<'_, W, S> {
     }
 
     // One try of fetching data; new data and repeats are acknowledged.
-    fn try_fetch(&mut self, pipe: Pipe, toggle: DataKind, length: Option<usize>) -> Arrival
-        ensures { PerformsOver W.Wire S.Store (tries_fetch (in_token pipe) toggle length) self.old (arrival_seen result) self.new }
+    fn try_fetch(&mut self, pipe: Pipe, awaited: Awaited) -> Arrival
+        ensures { PerformsOver W.Wire S.Store (tries_fetch (in_token pipe) awaited.toggle awaited.length) self.old (arrival_seen result) self.new }
     {
         let mut memory = [0; 67];
         let heard = self.exchange(pipe.in_token(), &mut memory);
-        let arrival = judge_arrival(heard, toggle, length);
+        let arrival = judge_arrival(heard, awaited);
         match arrival {
             Arrival::New(_) | Arrival::Repeat => self.acknowledge(),
             Arrival::Stalled | Arrival::Failed(_) => {}
@@ -67,18 +67,13 @@ impl<W: Wire, S: Store> Bus<'_, W, S> {
         arrival
     }
 
-    // Data are fetched: any number of bytes, or as many as this.
-    pub(crate) fn fetch(
-        &mut self,
-        pipe: Pipe,
-        toggle: DataKind,
-        length: Option<usize>,
-    ) -> Transacted<Body>
-        ensures { PerformsOver W.Wire S.Store (fetches 3 (in_token pipe) toggle length Nothing) self.old (ending_seen result) self.new }
+    // Data that are awaited are fetched.
+    pub(crate) fn fetch(&mut self, pipe: Pipe, awaited: Awaited) -> Transacted<Body>
+        ensures { PerformsOver W.Wire S.Store (fetches 3 (in_token pipe) awaited.toggle awaited.length Nothing) self.old (ending_seen result) self.new }
     {
         let mut cause = Cause::Nothing;
         for _ in 0..TRIES {
-            match self.try_fetch(pipe, toggle, length) {
+            match self.try_fetch(pipe, awaited) {
                 Arrival::New(body) => return Ok(Some(body)),
                 Arrival::Repeat => cause = Cause::Repeat,
                 Arrival::Stalled => return Ok(None),

@@ -18,4 +18,4 @@ returns-in-Ok-Data c =
     let bytes : Bytes c.args.heard.now = each_is_a_byte c.args.heard.now c.type_inv.heard in
     let short : length d.body.now ≤ 64 = leb-true (length d.body.now) 64 (only_built_packets_are_accepted c.args.heard.now (data_packet d.kind d.body.now) bytes (sym seen)).0 in
     let whole : c.of.result ≡ d.body.now = c.of.ensures ∙ take_all 64 d.body.now short in
-    c.judge_data.ensures ∙ ap (λ b. fetch_data (same_kind d.kind c.args.toggle) (fits c.args.length b) b) whole ∙ ap (fetch_of c.args.toggle c.args.length) seen
+    c.judge_data.ensures ∙ ap (λ b. fetch_data (same_kind d.kind c.args.awaited.toggle) (fits c.args.awaited.length b) b) whole ∙ ap (fetch_of c.args.awaited.toggle c.args.awaited.length) seen

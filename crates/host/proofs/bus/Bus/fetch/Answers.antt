@@ -23,8 +23,8 @@ returns-in-Stalled g c =
 pub loop-preserved : goal.loop-preserved
 loop-preserved g c e b rest =
     let ended = c.try_fetch.new.self in
-    let left = λ (k : Cause). PerformsOver g.W.Wire g.S.Store (fetches (3 - (c.loop.counter + 1)) (in_token c.args.pipe) c.args.toggle c.args.length k) ended e b in
-    let step = one_fetch_less g.W.Wire g.S.Store c.loop.counter (in_token c.args.pipe) c.args.toggle c.args.length c.loop.cause c.loop.self ended b in
+    let left = λ (k : Cause). PerformsOver g.W.Wire g.S.Store (fetches (3 - (c.loop.counter + 1)) (in_token c.args.pipe) c.args.awaited.toggle c.args.awaited.length k) ended e b in
+    let step = one_fetch_less g.W.Wire g.S.Store c.loop.counter (in_token c.args.pipe) c.args.awaited.toggle c.args.awaited.length c.loop.cause c.loop.self ended b in
     elim c.match-try_fetch.branch [
       | in-Repeat w ↦ c.loop.invariant e b (step repeated e c.loop-test.true w.in-Repeat.ensures (subst left w.cause-is rest))
       | in-Failed w ↦ c.loop.invariant e b (step (failed w.in-Failed.failed) e c.loop-test.true w.in-Failed.ensures (subst left w.cause-is rest))

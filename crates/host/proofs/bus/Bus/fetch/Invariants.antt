@@ -10,5 +10,5 @@ use Rattle.host.proofs.bus.Bus.fetch.Given as goal
 -- whatever the tries that are left lead to, all three lead to
 abbrev pub invariant-loop : goal.invariant-loop
 invariant-loop g l =
-    (e : Ending (List ℕ)) (b : Ends g.row.W.Denot g.row.S.Denot) → PerformsOver g.W.Wire g.S.Store (fetches (3 - l.counter) (in_token l.pipe) l.toggle l.length l.cause) l.self e b
-    → PerformsOver g.W.Wire g.S.Store (fetches 3 (in_token l.pipe) l.toggle l.length Nothing) l.initial.self e b
+    (e : Ending (List ℕ)) (b : Ends g.row.W.Denot g.row.S.Denot) → PerformsOver g.W.Wire g.S.Store (fetches (3 - l.counter) (in_token l.pipe) l.awaited.toggle l.awaited.length l.cause) l.self e b
+    → PerformsOver g.W.Wire g.S.Store (fetches 3 (in_token l.pipe) l.awaited.toggle l.awaited.length Nothing) l.initial.self e b
