@@ -1,5 +1,5 @@
 -- One try after another.
-use Rattle.std.proofs.Common.{◌≡◌, ℕ, suc, ◌+◌, ◌-◌, ◌<◌, ◌≤◌, List, Option, sym, refl, ap, subst, arith}
+use Rattle.std.proofs.Common.{◌≡◌, ℕ, suc, ◌+◌, ◌-◌, ◌<◌, ◌≤◌, List, Option, Some, None, Ok, sym, refl, ap, subst, arith}
 use mathlib.Core.Path.{fun_ext}
 use Rattle.packet.specs.declared.kind.DataKind.{DataKind}
 use Rattle.packet.specs.Parts.{Parts}
@@ -9,11 +9,10 @@ use Rattle.wire.specs.declared.interface.Wire as wire
 use Rattle.host.specs.declared.bus.Bus.{Bus as Ends}
 use Rattle.host.specs.declared.fault.Cause.{Cause}
 use Rattle.host.specs.declared.fault.Cause.TheVariants.{Repeat}
-use Rattle.host.specs.declared.judging.Reply.{Reply}
 use Rattle.host.specs.Buses.{PerformsOver}
 use Rattle.host.specs.Process.{Process, done, send, sends, bind}
 use Rattle.host.specs.Transactions.{Ending, passed, stalled, gave_up}
-use Rattle.host.specs.Tries.{reply_of, by_reply, tries_delivery, delivers, Fetch, new, repeated, stall, failed, fetch_of, by_fetch, sends_ack, acknowledges, tries_fetch, fetches}
+use Rattle.host.specs.Tries.{ending_seen, Reply, reply_of, by_reply, tries_delivery, delivers, Fetch, new, repeated, stall, failed, fetch_of, by_fetch, sends_ack, acknowledges, tries_fetch, fetches}
 use Rattle.host.proofs.Performing.{both_over, over_at}
 
 -- what is left of a fetch after a try
@@ -40,6 +39,11 @@ module _ {W S : Type 0} (w : wire.Ghosts W) (s : store.Ghosts S) where
   pub delivery_tried : (head body : Parts) (b m a : Ends W S) (x y : Reading) → Over (sends head) b x m → Over (sends body) m y a → Over (tries_delivery head body) b (reply_of y) a
   delivery_tried head body b m a x y first second = both_over w s (sends head) (λ _. send body (λ r. done (reply_of r))) b m a x (reply_of y) first (both_over w s (sends body) (λ r. done (reply_of r)) m a a y (reply_of y) second (over_at w s (reply_of y) a))
 
+  -- ACK and STALL end the tries
+  answered_now : (again : Cause → Process (Ending (Unit {0}))) (x : Option (Unit {0})) (b : Ends W S) → Over (by_reply again (Ok x)) b (ending_seen (Ok x)) b
+  answered_now again (Some a) b = over_at w s (passed a) b
+  answered_now again None b = over_at w s stalled b
+
   -- a try, and what is left
   pub delivery_goes_on : (n : ℕ) (head body : Parts) (cause : Cause) (b m a : Ends W S) (r : Reply) (e : Ending (Unit {0})) → Over (tries_delivery head body) b r m → Over (by_reply (delivers n head body) r) m e a → Over (delivers (suc n) head body cause) b e a
   delivery_goes_on n head body cause b m a r e first rest = both_over w s (tries_delivery head body) (by_reply (delivers n head body)) b m a r e first rest
@@ -49,6 +53,9 @@ module _ {W S : Type 0} (w : wire.Ghosts W) (s : store.Ghosts S) where
   one_delivery_less turn head body cause b m a r e h first rest =
       let n : suc (3 - (turn + 1)) ≡ 3 - turn = omega arith in
       subst (λ k. Over (delivers k head body cause) b e a) n (delivery_goes_on (3 - (turn + 1)) head body cause b m a r e first rest)
+
+  pub delivery_answered : (turn : ℕ) (head body : Parts) (cause : Cause) (b a : Ends W S) (x : Option (Unit {0})) → turn < 3 → Over (tries_delivery head body) b (Ok x) a → Over (delivers (3 - turn) head body cause) b (ending_seen (Ok x)) a
+  delivery_answered turn head body cause b a x h first = one_delivery_less turn head body cause b a a (Ok x) (ending_seen (Ok x)) h first (answered_now (delivers (3 - (turn + 1)) head body) x a)
 
   pub no_delivery_left : (turn : ℕ) (head body : Parts) (cause : Cause) (b : Ends W S) → 3 ≤ turn → Over (delivers (3 - turn) head body cause) b (gave_up cause) b
   no_delivery_left turn head body cause b h =

@@ -8,8 +8,6 @@ use Rattle.packet.specs.Kinds.{same_kind}
 use Rattle.host.specs.declared.fault.Cause.{Cause}
 use Rattle.host.specs.declared.fault.Cause.TheVariants.{Damaged, Repeat, NotReady}
 use Rattle.host.specs.declared.fault.TransactionFault.{TransactionFault}
-use Rattle.host.specs.declared.judging.Reply.{Reply}
-use Rattle.host.specs.declared.judging.Reply.TheVariants.{Acknowledged, Stalled, Failed}
 use Rattle.host.specs.Process.{Process, done, send}
 use Rattle.host.specs.Transactions.{Ending, passed, stalled, gave_up, cause_of}
 
@@ -19,19 +17,22 @@ ending_seen (Ok (Some a)) = passed a
 ending_seen (Ok None) = stalled
 ending_seen (Err fault) = gave_up fault.cause
 
--- what is made of the answer to data that were sent
+-- what is made of the answer to data that were sent: ACK, STALL, or a failure
+abbrev pub Reply : Type 0
+Reply = Result (Option (Unit {0})) Cause
+
 abbrev pub reply_of : Reading → Reply
-reply_of (refused n) = Failed (cause_of n)
-reply_of (packet (token k a e)) = Failed Damaged
-reply_of (packet (data_packet k body)) = Failed Damaged
-reply_of (packet (handshake Ack)) = Acknowledged
-reply_of (packet (handshake Nak)) = Failed NotReady
-reply_of (packet (handshake Stall)) = Stalled
+reply_of (refused n) = Err (cause_of n)
+reply_of (packet (token k a e)) = Err Damaged
+reply_of (packet (data_packet k body)) = Err Damaged
+reply_of (packet (handshake Ack)) = Ok (Some tt)
+reply_of (packet (handshake Nak)) = Err NotReady
+reply_of (packet (handshake Stall)) = Ok None
 
 abbrev pub by_reply : (Cause → Process (Ending (Unit {0}))) → Reply → Process (Ending (Unit {0}))
-by_reply again Acknowledged = done (passed tt)
-by_reply again Stalled = done stalled
-by_reply again (Failed cause) = again cause
+by_reply again (Ok (Some a)) = done (passed a)
+by_reply again (Ok None) = done stalled
+by_reply again (Err cause) = again cause
 
 -- one try: a token and the data after it, and what is made of the answer
 abbrev pub tries_delivery : Parts → Parts → Process Reply

@@ -8,13 +8,8 @@ ghost use Rattle.host.specs.Tries.{reply_of, fits, fetch_data, fetch_of};
 use super::fault::Cause;
 use packet::{Body, DataKind, Handshake, Packet, read};
 
-// The answer to data that were sent: three outcomes, of which the host handles each in its own way.
-#[derive(Clone, Copy)]
-pub enum Reply {
-    Acknowledged,
-    Stalled,
-    Failed(Cause),
-}
+// The answer to data that were sent: ACK, or STALL, which is None, or else why the try failed.
+pub type Reply = Result<Option<()>, Cause>;
 
 // The answer to an IN: new data that fit, a repeat, STALL, or a failure. The host handles each of the four in its own way.
 #[derive(Clone, Copy)]
@@ -29,11 +24,11 @@ pub(crate) fn judge_reply(heard: &[u8]) -> Reply
     ensures { result ≡ reply_of (reading heard.now) }
 {
     match read(heard) {
-        Err(refusal) => Reply::Failed(refusal.into()),
-        Ok(Packet::Token { .. } | Packet::Data { .. }) => Reply::Failed(Cause::Damaged),
-        Ok(Packet::Handshake(Handshake::Ack)) => Reply::Acknowledged,
-        Ok(Packet::Handshake(Handshake::Nak)) => Reply::Failed(Cause::NotReady),
-        Ok(Packet::Handshake(Handshake::Stall)) => Reply::Stalled,
+        Err(refusal) => Err(refusal.into()),
+        Ok(Packet::Token { .. } | Packet::Data { .. }) => Err(Cause::Damaged),
+        Ok(Packet::Handshake(Handshake::Ack)) => Ok(Some(())),
+        Ok(Packet::Handshake(Handshake::Nak)) => Err(Cause::NotReady),
+        Ok(Packet::Handshake(Handshake::Stall)) => Ok(None),
     }
 }
 

@@ -20,7 +20,7 @@ const TRIES: u8 = 3;
 // How a transaction ended that was not given up: with what came of it, or with STALL, which is None.
 pub(crate) type Transacted<T> = Result<Option<T>, TransactionFault>;
 
-// Delivering and fetching go on by enums of their own, of three and of four outcomes, so that each has its own loop.
+// Delivering goes on by a reply of three outcomes and fetching by an arrival of four, so that each has its own loop.
 impl<W: Wire, S: Store> Bus<'_, W, S> {
     // One try of sending data that follow a token.
     fn try_delivery(&mut self, pipe: Pipe, kind: DataKind, body: &Body) -> Reply
@@ -38,9 +38,8 @@ impl<W: Wire, S: Store> Bus<'_, W, S> {
         let mut cause = Cause::Nothing;
         for _ in 0..TRIES {
             match self.try_delivery(pipe, kind, body) {
-                Reply::Acknowledged => return Ok(Some(())),
-                Reply::Stalled => return Ok(None),
-                Reply::Failed(failed) => cause = failed,
+                Ok(answered) => return Ok(answered),
+                Err(failed) => cause = failed,
             }
         }
         Err(TransactionFault { cause })
