@@ -11,6 +11,7 @@ use Rattle.packet.specs.declared.kind.Handshake.TheVariants.{Ack, Nak, Stall}
 use Rattle.packet.specs.Names.{token_kind_name, data_kind_name, handshake_name}
 use Rattle.wire.specs.declared.hub.Port.{Port}
 use Rattle.wire.specs.declared.hub.Port.TheVariants.{Open, Closed}
+use Rattle.wire.specs.Names.{port_name}
 use Rattle.wire.specs.declared.interface.Direction.{Direction}
 use Rattle.wire.specs.declared.interface.Direction.TheVariants.{Outward, Homeward}
 use Rattle.script.specs.declared.link.Cable.{Cable}
@@ -44,7 +45,7 @@ abbrev pub cable_read : List ℕ → Result Cable Misread
 cable_read w = named w (cable_name First) First (named w (cable_name Second) Second (Err NotACable))
 
 abbrev pub port_read : List ℕ → Result Port Misread
-port_read w = named w (codes "open") Open (named w (codes "closed") Closed (Err NotAPort))
+port_read w = named w (port_name Open) Open (named w (port_name Closed) Closed (Err NotAPort))
 
 abbrev pub direction_read : List ℕ → Result Direction Misread
 direction_read w = named w (codes "outward") Outward (named w (codes "homeward") Homeward (Err NotADirection))

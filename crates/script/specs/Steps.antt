@@ -19,8 +19,8 @@ use Rattle.script.specs.Numbers.{number_read, seed_read, most_bytes}
 use Rattle.script.specs.Text.{words, rest_of}
 
 -- a step: bytes to be read as a packet; a packet to be built; a script for a cable; a port to be opened or closed; bytes
--- to be carried; a tally to be cleared; a memory of so many bytes, zeros or the pattern of a seed; a lock; a sector to be
--- read into so many bytes; and one to be written with the pattern of a seed, so many bytes long
+-- to be carried; a tally to be cleared; a memory of so many bytes, zeros or the pattern of a seed; a lock; a sector to
+-- be read into so many bytes; and one to be written with the pattern of a seed, so many bytes long
 pub data Action : Type 0 where
   read_packet : List ℕ → Action
   build_packet : Parts → Action

@@ -1,4 +1,5 @@
-// The steps of the disk: a new memory for it, a lock over it, and a sector read or written.
+// The steps of the disk: a new memory for it, a lock over it, and a sector read or written. Each function is the
+// sentence of one step; what they have in common is in `Words`.
 ghost use Rattle.std.specs.Prelude.{◌≡◌};
 ghost use Rattle.script.specs.Arguments.{optional};
 ghost use Rattle.script.specs.Numbers.{number_read, most_bytes};

@@ -2,3 +2,4 @@ pub mod Carrying
 pub mod Delivery
 pub mod Scripts
 pub mod Hubs
+pub mod Names

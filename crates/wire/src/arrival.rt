@@ -2,7 +2,8 @@
 ghost use Rattle.std.specs.Prelude.{◌≡◌, ◌-◌, ◌≤◌, ◌++◌, length, replicate};
 ghost use Rattle.wire.specs.Carrying.{one_more, laid};
 
-// The bytes in front, zeros behind; answers how many arrive.
+// The bytes in front, zeros behind; answers how many arrive. Here and wherever memory is filled, the count and the
+// memory are two clauses, since callers cite them one by one.
 pub(crate) fn lay(bytes: &[u8], heard: &mut [u8; 67]) -> usize
     requires { length bytes.now ≤ 67 }
     ensures count { result ≡ length bytes.now }

@@ -1,17 +1,29 @@
 // The hub: any two wires behind a port that is open or closed; itself a wire, with its own tally.
-ghost use Rattle.std.specs.Prelude.{◌≡◌};
+ghost use Rattle.std.specs.Prelude.{◌≡◌, Some};
 ghost use Rattle.wire.specs.Carrying.{Carries, one_more};
 ghost use Rattle.wire.specs.Hubs.{Through, Passes, ByPort, with_first, with_second, with_port, with_tally};
+ghost use Rattle.wire.specs.Names.{port_name};
 ghost use Rattle.wire.specs.declared.hub.Port.TheVariants.{Open, Closed};
 
 use super::arrival::{grown, lay};
 use super::interface::{Direction, Wire};
-use std::mem;
+use std::{fmt, mem};
 
 #[derive(Clone, Copy)]
 pub enum Port {
     Open,
     Closed,
+}
+
+impl fmt::Display for Port {
+    ghost output = { λ port. Some (port_name port) };
+
+    fn fmt<W: fmt::Write>(&self, f: &mut fmt::Formatter<W>) -> fmt::Result {
+        f.write_str(match self {
+            Port::Open => "open",
+            Port::Closed => "closed",
+        })
+    }
 }
 
 #[derive(Drop)]
@@ -75,7 +87,8 @@ impl<F: Wire, S: Wire> Hub<F, S> {
         mem::replace(&mut self.second, wire)
     }
 
-    // Over both wires, the nearer one first.
+    // Over both wires, the nearer one first. Here, in `through_port` and in `carry` each clause says which field stays:
+    // the wires are only described, so that no term gives the whole hub.
     fn pass(&mut self, direction: Direction, sent: &[u8], heard: &mut [u8; 67]) -> usize
         ensures passes { Passes direction sent.now (F.Wire.tally self.old.first) (F.Wire.tally self.new.first) (S.Wire.tally self.old.second) (S.Wire.tally self.new.second) result heard.new }
         ensures port { self.new.port ≡ self.old.port }
