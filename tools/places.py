@@ -155,7 +155,7 @@ sizes = collections.Counter()
 files = collections.Counter()
 for path, text in sources(".antt", "proofs"):
     crate = path.split("/")[1]
-    kind = "answers" if path.endswith("Answers.antt") else "lemmas"
+    kind = "lemmas" if path.count("/") == 3 else "answers"
     files[crate, kind] += 1
     sizes[crate, kind] += text.count("\n")
 show("8 files and lines of proofs", (f"{c} {k}: {files[c, k]} files, {sizes[c, k]} lines" for c, k in sorted(sizes)))
