@@ -5,6 +5,8 @@ ghost use Rattle.script.specs.Names.{named_among};
 use super::Misread;
 
 // The first of the table that has this word for its name.
+// The loop stays: one line of invariant proves it, and for `find` with `map` and `ok_or` the check found no proof by
+// itself.
 pub(crate) fn named<T: Copy>(
     word: &[u8],
     table: &[(&str, T)],
