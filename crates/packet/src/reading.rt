@@ -1,5 +1,5 @@
 // Reading a packet from the bytes that arrived.
-ghost use Rattle.std.specs.Prelude.{◌≡◌};
+ghost use Rattle.std.specs.Prelude.{◌≡◌, ◌<◌, length, drop};
 ghost use Rattle.packet.specs.Reading.{heard, reading, reading_token, reading_data, reading_handshake};
 
 use super::check::{body_check, token_check};
@@ -14,17 +14,18 @@ pub fn read(bytes: &[u8]) -> Result<Packet<'_>, Refusal>
         return Err(Refusal::NoBytes);
     };
     match Kind::try_from(*first)? {
-        Kind::Token(kind) => read_token(kind, rest),
+        Kind::Token(kind) => read_token(kind, bytes),
         Kind::Data(kind) => read_data(kind, rest),
-        Kind::Handshake(handshake) => read_handshake(handshake, rest),
+        Kind::Handshake(handshake) => read_handshake(handshake, bytes),
     }
 }
 
-// The two bytes of a token behind its first.
-fn read_token<'a>(kind: TokenKind, rest: &[u8]) -> Result<Packet<'a>, Refusal>
-    ensures { heard result ≡ reading_token kind rest.now }
+// A token has two bytes behind its first.
+fn read_token<'a>(kind: TokenKind, bytes: &[u8]) -> Result<Packet<'a>, Refusal>
+    requires { 0 < length bytes.now }
+    ensures { heard result ≡ reading_token kind (drop 1 bytes.now) }
 {
-    let [low, high] = rest else {
+    let [_, low, high] = bytes else {
         return Err(Refusal::WrongLength);
     };
     let word = u16::from_le_bytes([*low, *high]);
@@ -52,12 +53,13 @@ fn read_data(kind: DataKind, rest: &[u8]) -> Result<Packet<'_>, Refusal>
     Ok(Packet::data(kind, body))
 }
 
-// Nothing follows the first byte of a handshake.
-fn read_handshake<'a>(handshake: Handshake, rest: &[u8]) -> Result<Packet<'a>, Refusal>
-    ensures { heard result ≡ reading_handshake handshake rest.now }
+// A handshake is one byte.
+fn read_handshake<'a>(handshake: Handshake, bytes: &[u8]) -> Result<Packet<'a>, Refusal>
+    requires { 0 < length bytes.now }
+    ensures { heard result ≡ reading_handshake handshake (drop 1 bytes.now) }
 {
-    if !rest.is_empty() {
+    let [_] = bytes else {
         return Err(Refusal::WrongLength);
-    }
+    };
     Ok(Packet::handshake(handshake))
 }
