@@ -38,7 +38,7 @@ impl Request {
     }
 }
 
-// How a transaction ended, where STALL gives up too, with the place of its packet.
+// How a transaction ended, with the place of its packet; STALL counts as given up too.
 pub(crate) fn placed<T>(ended: Transacted<T>, place: Place) -> Result<T, TransportFault>
     ensures { result ≡ placed_as place.endpoint place.stage place.packet ended }
 {

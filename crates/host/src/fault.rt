@@ -34,7 +34,7 @@ impl From<Cause> for u8 {
     }
 }
 
-// Where no packet was read, no byte came, or the bytes were damaged.
+// Why no packet was read: no bytes came, or they were damaged.
 impl From<Refusal> for Cause {
     ghost from_gives = { λ refusal cause. cause ≡ cause_of (refusal_number refusal) };
 

@@ -11,7 +11,8 @@ use packet::{Body, DataKind, Handshake, Packet, read};
 // The answer to data that were sent: ACK, or STALL, which is None, or else why the try failed.
 pub type Reply = Result<Option<()>, Cause>;
 
-// The answer to an IN: new data that fit, a repeat, STALL, or a failure. The host handles each of the four in its own way.
+// The answer to an IN: new data that fit, a repeat, STALL, or a failure. A repeat is acknowledged like new data although the
+// try failed, so a `Result` would not tell it from the other failures.
 #[derive(Clone, Copy)]
 pub enum Arrival {
     New(Body),

@@ -1,7 +1,6 @@
 // What holds of every run of the host's layers. The functions do nothing; their contracts are the laws, and the check fails
-// without their proofs. In `host_laws` the same is said of any endpoint. That doesn't replace what is said here: there some
-// packet before the fetched one still waits, and here it is known which; and what would take a delivery here from one there
-// is as long as its proof.
+// without their proofs. `host_laws` says the same of any endpoint, but less: there some packet waits before the fetched one, and
+// here it is known which. To derive the law of deliveries here from the one there would take as long as its own proof.
 ghost use Rattle.host.specs.Deliveries.{FailedDeliveriesArePaidFor};
 ghost use Rattle.host.specs.Fetches.{FailedFetchesArePaidFor};
 

@@ -20,7 +20,8 @@ const TRIES: u8 = 3;
 // How a transaction ended that was not given up: with what came of it, or with STALL, which is None.
 pub(crate) type Transacted<T> = Result<Option<T>, TransactionFault>;
 
-// Delivering goes on by a reply of three outcomes and fetching by an arrival of four, so that each has its own loop.
+// A delivery is two exchanges with a reply of three outcomes. A fetch is one exchange, which may be acknowledged, with an
+// arrival of four. So each has its own try and its own loop.
 impl<W: Wire, S: Store> Bus<'_, W, S> {
     // One try of sending data that follow a token.
     fn try_delivery(&mut self, pipe: Pipe, kind: DataKind, body: &Body) -> Reply

@@ -30,7 +30,7 @@ impl Packet<'_> {
 }
 
 impl<'a> WellFormed<'a> {
-    // No `TryFrom`, so that whether, what and why not are three clauses with names.
+    // Not a `TryFrom`: the clauses say by name when there is a result, what it is, and which refusal there is otherwise.
     pub fn new(packet: Packet<'a>) -> Result<Self, Refusal>
         ensures variant { IsOk result ↔ (can_be_built (parts packet.entry) ≡ true) }
         ensures ok { IfOk result (λ well_formed. well_formed.packet ≡ packet.entry) }

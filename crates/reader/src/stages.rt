@@ -9,8 +9,8 @@ use super::planning::{Plan, plan_of};
 use super::state::{Bulk, Halts};
 use transport::{Command, CommandBlock, DataDirection, Status, StatusBlock};
 
-// The clauses of these methods name toggles and halts, and not the whole of the bulk endpoints, since the phase is put anew by
-// each.
+// Here and in `sending` and `receiving`, clauses name the toggles and the halts, and not the whole of the bulk endpoints: each
+// of these methods sets a new phase.
 impl Bulk {
     // Data are over: the endpoint halts if bytes are still due, and a status waits.
     pub(crate) fn end_data(&mut self, direction: DataDirection, block: StatusBlock)

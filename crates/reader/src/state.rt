@@ -31,8 +31,8 @@ pub enum Transfer {
     Stalled,
 }
 
-// What must be heard next for it to count; anything else ends the expectation. That nothing is expected is a case like the
-// others and no `None`, since every match goes through all the cases at once.
+// What must be heard next for it to count; anything else ends the expectation. An `Option` around the
+// other cases would add `Some` to the arms of a match and take none away.
 #[derive(Clone, Copy, Default)]
 pub enum Expectation {
     #[default]

@@ -1,5 +1,5 @@
-// The steps that build a packet, and the one that reads one. Here and for the other steps, each function is the sentence
-// of one step: what it has in common with its like is in `Words`, and one function for several would be no plainer.
+// The steps that build a packet, and the one that reads one. Here and for the other steps, each function reads the words of
+// one step. What they share is in `Words`; one function for several steps would be no plainer.
 ghost use Rattle.std.specs.Prelude.{◌≡◌};
 ghost use Rattle.script.specs.Misreads.{IfRead};
 ghost use Rattle.script.specs.Steps.{sort_read, step_seen, token_step, data_step, handshake_step, build_step, packet_step};

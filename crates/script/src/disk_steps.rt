@@ -1,5 +1,5 @@
-// The steps of the disk: a new memory for it, a lock over it, and a sector read or written. Each function is the
-// sentence of one step; what they have in common is in `Words`.
+// The steps of the disk: a new memory for it, a lock over it, and a sector read or written. Each function reads
+// the words of one step; what they share is in `Words`.
 ghost use Rattle.std.specs.Prelude.{◌≡◌};
 ghost use Rattle.script.specs.Arguments.{optional};
 ghost use Rattle.script.specs.Numbers.{number_read, most_bytes};

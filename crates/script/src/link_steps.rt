@@ -1,5 +1,5 @@
-// The steps of the hub: its cables, its port, what it carries, and its tally. Each function is the sentence of one step;
-// what they have in common is in `Words`.
+// The steps of the hub: its cables, its port, what it carries, and its tally. Each function reads the words of one
+// step; what they share is in `Words`.
 ghost use Rattle.std.specs.Prelude.{◌≡◌};
 ghost use Rattle.script.specs.Misreads.{IfRead};
 ghost use Rattle.script.specs.Steps.{step_seen, cable_step, port_step, carry_step, clear_step};

@@ -28,8 +28,7 @@ pub fn read_number(word: &[u8], limit: u64) -> Result<u64, Misread>
     Ok(number)
 }
 
-// A number, or 255 where it is above that. Of this and the next arguments each has its own type and limit, and
-// `read_number` reads them all.
+// A number, or 255 where it is above that. The numbers of this file differ in type or in limit; `read_number` reads them all.
 impl Argument for u8 {
     type Value = u8;
 
