@@ -40,7 +40,7 @@ module _ {W S : Type 0} (w : wire.Ghosts W) (s : store.Ghosts S) where
   delivery_tried head body b m a x y first second = both_over w s (sends head) (λ _. send body (λ r. done (reply_of r))) b m a x (reply_of y) first (both_over w s (sends body) (λ r. done (reply_of r)) m a a y (reply_of y) second (over_at w s (reply_of y) a))
 
   -- ACK and STALL end the tries
-  answered_now : (again : Cause → Process (Ending (Unit {0}))) (x : Option (Unit {0})) (b : Ends W S) → Over (by_reply again (Ok x)) b (ending_seen (Ok x)) b
+  answered_now : (again : Cause → Process (Ending (Unit {0}))) (x : Option (Unit {0})) (b : Ends W S) → Over (by_reply again (Ok x)) b (ending_seen (λ u. u) (Ok x)) b
   answered_now again (Some a) b = over_at w s (passed a) b
   answered_now again None b = over_at w s stalled b
 
@@ -54,8 +54,8 @@ module _ {W S : Type 0} (w : wire.Ghosts W) (s : store.Ghosts S) where
       let n : suc (3 - (turn + 1)) ≡ 3 - turn = omega arith in
       subst (λ k. Over (delivers k head body cause) b e a) n (delivery_goes_on (3 - (turn + 1)) head body cause b m a r e first rest)
 
-  pub delivery_answered : (turn : ℕ) (head body : Parts) (cause : Cause) (b a : Ends W S) (x : Option (Unit {0})) → turn < 3 → Over (tries_delivery head body) b (Ok x) a → Over (delivers (3 - turn) head body cause) b (ending_seen (Ok x)) a
-  delivery_answered turn head body cause b a x h first = one_delivery_less turn head body cause b a a (Ok x) (ending_seen (Ok x)) h first (answered_now (delivers (3 - (turn + 1)) head body) x a)
+  pub delivery_answered : (turn : ℕ) (head body : Parts) (cause : Cause) (b a : Ends W S) (x : Option (Unit {0})) → turn < 3 → Over (tries_delivery head body) b (Ok x) a → Over (delivers (3 - turn) head body cause) b (ending_seen (λ u. u) (Ok x)) a
+  delivery_answered turn head body cause b a x h first = one_delivery_less turn head body cause b a a (Ok x) (ending_seen (λ u. u) (Ok x)) h first (answered_now (delivers (3 - (turn + 1)) head body) x a)
 
   pub no_delivery_left : (turn : ℕ) (head body : Parts) (cause : Cause) (b : Ends W S) → 3 ≤ turn → Over (delivers (3 - turn) head body cause) b (gave_up cause) b
   no_delivery_left turn head body cause b h =

@@ -12,10 +12,10 @@ use Rattle.host.specs.Process.{Process, done, send}
 use Rattle.host.specs.Transactions.{Ending, passed, stalled, gave_up, cause_of}
 
 -- an ending as the code answers it
-abbrev pub ending_seen : {A : Type 0} → Result (Option A) TransactionFault → Ending A
-ending_seen (Ok (Some a)) = passed a
-ending_seen (Ok None) = stalled
-ending_seen (Err fault) = gave_up fault.cause
+abbrev pub ending_seen : {A B : Type 0} → (A → B) → Result (Option A) TransactionFault → Ending B
+ending_seen f (Ok (Some a)) = passed (f a)
+ending_seen f (Ok None) = stalled
+ending_seen f (Err fault) = gave_up fault.cause
 
 -- what is made of the answer to data that were sent: ACK, STALL, or a failure
 abbrev pub Reply : Type 0

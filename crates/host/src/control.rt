@@ -1,5 +1,6 @@
 // Control transfers: a setup, and then empty DATA1 on IN.
 ghost use Rattle.std.specs.Prelude.{◌≡◌};
+ghost use Rattle.packet.specs.Bodies.{held};
 ghost use Rattle.host.specs.Buses.{PerformsOver};
 ghost use Rattle.host.specs.Pipes.{address_number};
 ghost use Rattle.host.specs.Transfers.{request_setup, placed_as, transfers};
@@ -26,7 +27,7 @@ pub enum Request {
 impl Request {
     // The eight bytes of its setup. Clear halt names the endpoint with its direction: 1 IN, or 2 OUT.
     fn setup(self) -> Body
-        ensures { result ≡ request_setup self }
+        ensures { held result ≡ request_setup self }
     {
         Body::of(&match self {
             Request::SetAddress => [0x00, 0x05, 1, 0, 0, 0, 0, 0],

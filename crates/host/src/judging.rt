@@ -1,5 +1,6 @@
 // What the host makes of what it hears: the one place where an answer is judged.
 ghost use Rattle.std.specs.Prelude.{◌≡◌};
+ghost use Rattle.packet.specs.Bodies.{held};
 ghost use Rattle.packet.specs.Reading.{reading};
 ghost use Rattle.packet.specs.Kinds.{same_kind};
 ghost use Rattle.host.specs.Arrivals.{arrival_seen};
@@ -42,7 +43,7 @@ pub(crate) struct Awaited {
 
 // Data that came after an IN; those with the toggle that is not awaited are a repeat.
 fn judge_data(kind: DataKind, body: Body, awaited: Awaited) -> Arrival
-    ensures { arrival_seen result ≡ fetch_data (same_kind kind awaited.toggle) (fits awaited.length body) body }
+    ensures { arrival_seen result ≡ fetch_data (same_kind kind awaited.toggle) (fits awaited.length (held body)) (held body) }
 {
     if kind != awaited.toggle {
         return Arrival::Repeat;

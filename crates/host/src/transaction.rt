@@ -1,4 +1,5 @@
 // Transactions: a packet delivered to the reader or fetched from it, in at most three tries.
+ghost use Rattle.packet.specs.Bodies.{held};
 ghost use Rattle.packet.specs.Parts.{data_packet};
 ghost use Rattle.host.specs.declared.fault.Cause.TheVariants.{Nothing};
 ghost use Rattle.host.specs.Arrivals.{arrival_seen};
@@ -25,7 +26,7 @@ pub(crate) type Transacted<T> = Result<Option<T>, TransactionFault>;
 impl<W: Wire, S: Store> Bus<'_, W, S> {
     // One try of sending data that follow a token.
     fn try_delivery(&mut self, pipe: Pipe, kind: DataKind, body: &Body) -> Reply
-        ensures { PerformsOver W.Wire S.Store (tries_delivery (out_token pipe) (data_packet kind body.now)) self.old result self.new }
+        ensures { PerformsOver W.Wire S.Store (tries_delivery (out_token pipe) (data_packet kind (held body.now))) self.old result self.new }
     {
         let mut memory = [0; 67];
         self.exchange(pipe.out_token(), &mut memory);
@@ -34,7 +35,7 @@ impl<W: Wire, S: Store> Bus<'_, W, S> {
 
     // Data that follow a token are delivered.
     pub(crate) fn deliver(&mut self, pipe: Pipe, kind: DataKind, body: &Body) -> Transacted<()>
-        ensures { PerformsOver W.Wire S.Store (delivers 3 (out_token pipe) (data_packet kind body.now) Nothing) self.old (ending_seen result) self.new }
+        ensures { PerformsOver W.Wire S.Store (delivers 3 (out_token pipe) (data_packet kind (held body.now)) Nothing) self.old (ending_seen (λ u. u) result) self.new }
     {
         let mut cause = Cause::Nothing;
         for _ in 0..TRIES {
@@ -69,7 +70,7 @@ impl<W: Wire, S: Store> Bus<'_, W, S> {
 
     // Data that are awaited are fetched.
     pub(crate) fn fetch(&mut self, pipe: Pipe, awaited: Awaited) -> Transacted<Body>
-        ensures { PerformsOver W.Wire S.Store (fetches 3 (in_token pipe) awaited.toggle awaited.length Nothing) self.old (ending_seen result) self.new }
+        ensures { PerformsOver W.Wire S.Store (fetches 3 (in_token pipe) awaited.toggle awaited.length Nothing) self.old (ending_seen held result) self.new }
     {
         let mut cause = Cause::Nothing;
         for _ in 0..TRIES {

@@ -1,5 +1,6 @@
 // A packet whose parts fit their fields: it can always be built.
 ghost use Rattle.std.specs.Prelude.{◌≡◌, ◌↔◌, true, IsOk, IfOk, IfErr};
+ghost use Rattle.packet.specs.Bodies.{held};
 ghost use Rattle.packet.specs.Building.{can_be_built};
 ghost use Rattle.packet.specs.Parts.{parts, data_packet, handshake};
 ghost use Rattle.packet.specs.declared.refusal.Refusal.TheVariants.{TooWide};
@@ -44,7 +45,7 @@ impl<'a> WellFormed<'a> {
     }
 
     pub fn data(kind: DataKind, body: &'a Body) -> Self
-        ensures { parts result.packet ≡ data_packet kind body.now }
+        ensures { parts result.packet ≡ data_packet kind (held body.now) }
     {
         WellFormed {
             packet: Packet::data(kind, body.as_slice()),

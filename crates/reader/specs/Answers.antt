@@ -1,6 +1,7 @@
 -- What the reader answers, as plain values.
 use Rattle.std.specs.Prelude.{ℕ, ◌-◌, List, [], ◌++◌, length, replicate}
 use Rattle.packet.specs.declared.kind.Handshake.TheVariants.{Ack, Nak, Stall}
+use Rattle.packet.specs.Bodies.{held}
 use Rattle.packet.specs.Building.{building}
 use Rattle.packet.specs.Parts.{Parts, data_packet, handshake}
 use Rattle.reader.specs.declared.answer.Answer.{Answer as Answers}
@@ -13,7 +14,7 @@ pub data Answer : Type 0 where
 abbrev pub answer_seen : Answers → Answer
 answer_seen Nothing = quiet
 answer_seen (Handshake h) = says (handshake h)
-answer_seen (Data k body) = says (data_packet k body)
+answer_seen (Data k body) = says (data_packet k (held body))
 
 abbrev pub acks : Answer
 acks = says (handshake Ack)

@@ -2,13 +2,13 @@
 ghost use Rattle.std.specs.Prelude.{◌≡◌};
 ghost use Rattle.reader.specs.Answers.{answer_seen};
 ghost use Rattle.reader.specs.Control.{addressed, settled, acknowledged, heard_too, clear_asked, asked, begun, halt_cleared, transport_reset, effect, control_in, setup_data, control_data, control_ack, expecting, with_control, with_addresses};
-ghost use Rattle.reader.specs.State.{bulk_seen, seen};
+ghost use Rattle.reader.specs.State.{bulk_seen, seen, fresh};
 
 use super::answer::Answer;
 use super::phase::Phase;
 use super::state::{Addresses, Bulk, Core, Expectation, Halts, Request, Transfer};
 use packet::{Body, DataKind, Handshake, TokenKind};
-use transport::DataDirection;
+use transport::{DataDirection, Toggles};
 
 impl Addresses {
     pub(crate) fn hear(self, address: u8) -> bool
@@ -95,6 +95,17 @@ impl Bulk {
         self.halts = self.halts.keep();
         self.phase = Phase::Command;
     }
+
+    // A configuration turns both toggles back, ends the halts and drops the command. The buffer is left alone: its bytes
+    // are of no command then.
+    fn configure(&mut self)
+        ensures state { bulk_seen self.new ≡ fresh.bulk }
+        ensures buffer { self.new.buffer ≡ self.old.buffer }
+    {
+        self.toggles = Toggles::fresh();
+        self.halts = Halts::NONE;
+        self.phase = Phase::Command;
+    }
 }
 
 impl Core {
@@ -108,7 +119,7 @@ impl Core {
             }
             Request::Configure(on) => {
                 self.control.configured = on;
-                self.bulk = Bulk::fresh();
+                self.bulk.configure();
             }
             Request::ClearHalt(direction) => self.bulk.clear_halt(direction),
             Request::ResetTransport => self.bulk.reset(),

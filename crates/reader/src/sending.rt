@@ -1,5 +1,6 @@
 // Data that go to the host: the packet that waits, and what its acknowledgement does.
 ghost use Rattle.std.specs.Prelude.{◌≡◌, min, take, drop};
+ghost use Rattle.packet.specs.Bodies.{held};
 ghost use Rattle.reader.specs.Disk.{disk_of};
 ghost use Rattle.reader.specs.Stages.{waiting, data_acknowledged};
 ghost use Rattle.reader.specs.State.{bulk_seen};
@@ -13,7 +14,7 @@ use transport::{DataDirection, Status, StatusBlock, capacity_reply};
 
 // The bytes of a slice from a place on, as a body: so many of them if there are so many, and at most 64.
 fn body_from(bytes: &[u8], place: usize, most: usize) -> Body
-    ensures { result ≡ take (min 64 most) (drop place bytes.now) }
+    ensures { held result ≡ take (min 64 most) (drop place bytes.now) }
 {
     let rest = &bytes[place.min(bytes.len())..];
     Body::of(&rest[..most.min(rest.len())])
@@ -21,7 +22,7 @@ fn body_from(bytes: &[u8], place: usize, most: usize) -> Body
 
 // The packet that waits: the next bytes of what the command sends, at most 64.
 pub(crate) fn waiting_body<S: Store>(store: &S, sending: Sending) -> Body
-    ensures { result ≡ waiting (disk_of S.Store store.now) sending.left sending.moved sending.source }
+    ensures { held result ≡ waiting (disk_of S.Store store.now) sending.left sending.moved sending.source }
 {
     let most = sending.left as usize;
     match sending.source {
@@ -67,7 +68,7 @@ impl Bulk {
 
 // The bytes of a status block, as a body.
 pub(crate) fn status_body(block: StatusBlock) -> Body
-    ensures { result ≡ status_bytes block }
+    ensures { held result ≡ status_bytes block }
 {
     let mut bytes = [0; 13];
     block.build(&mut bytes);

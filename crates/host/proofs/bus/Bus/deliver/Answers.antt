@@ -8,7 +8,7 @@ pub returns-in-Ok : goal.returns-in-Ok
 returns-in-Ok g c =
     let ended = c.try_delivery.new.self in
     let answered = c.in-Ok.answered in
-    c.loop.invariant (ending_seen (Ok answered)) ended (delivery_answered g.W.Wire g.S.Store c.loop.counter _ _ c.loop.cause c.loop.self ended answered c.loop-test.true c.in-Ok.ensures)
+    c.loop.invariant (ending_seen (λ u. u) (Ok answered)) ended (delivery_answered g.W.Wire g.S.Store c.loop.counter _ _ c.loop.cause c.loop.self ended answered c.loop-test.true c.in-Ok.ensures)
 
 pub loop-preserved : goal.loop-preserved
 loop-preserved g c e b rest =

@@ -1,4 +1,5 @@
 use Rattle.std.proofs.Common.{◌+◌, ◌-◌, subst}
+use Rattle.packet.specs.Bodies.{held}
 use Rattle.host.specs.declared.fault.Cause.{Cause}
 use Rattle.host.specs.Buses.{PerformsOver}
 use Rattle.host.specs.Pipes.{in_token}
@@ -12,7 +13,7 @@ use Rattle.host.proofs.bus.Bus.fetch.Goals.{in-Repeat, in-Failed}
 pub returns-in-New : goal.returns-in-New
 returns-in-New g c =
     let ended = c.try_fetch.new.self in
-    let e = passed c.in-New.body in
+    let e = passed (held c.in-New.body) in
     c.loop.invariant e ended (one_fetch_less g.W.Wire g.S.Store c.loop.counter _ _ _ c.loop.cause c.loop.self ended ended _ e c.loop-test.true c.in-New.ensures (over_at g.W.Wire g.S.Store e ended))
 
 pub returns-in-Stalled : goal.returns-in-Stalled

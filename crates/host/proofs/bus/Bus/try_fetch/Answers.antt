@@ -1,4 +1,5 @@
 use Rattle.std.proofs.Common.{ap, inl, inr}
+use Rattle.packet.specs.Bodies.{held}
 use Rattle.packet.specs.Reading.{reading}
 use Rattle.host.specs.Arrivals.{arrival_seen}
 use Rattle.host.specs.Pipes.{in_token}
@@ -14,7 +15,7 @@ returns-in-New g c =
     let a = c.acknowledge.new.self in
     let ends = λ (y : Fetch). fetch_tried g.W.Wire g.S.Store (in_token c.args.pipe) _ c.args.awaited.toggle c.args.awaited.length c.args.self.now m a (reading heard.result.now) _ y c.in_token.ensures heard.ensures c.judge_arrival-arrival.ensures in
     elim c.in-New.is [
-      | inl x ↦ ends (new x.0) (ap arrival_seen x.1) (new_acknowledged g.W.Wire g.S.Store x.0 m a c.acknowledge.ensures)
+      | inl x ↦ ends (new (held x.0)) (ap arrival_seen x.1) (new_acknowledged g.W.Wire g.S.Store (held x.0) m a c.acknowledge.ensures)
       | inr x ↦ ends repeated (ap arrival_seen x) (repeat_acknowledged g.W.Wire g.S.Store m a c.acknowledge.ensures)
     ]
 
