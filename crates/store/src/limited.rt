@@ -1,6 +1,6 @@
 // A plain disk that takes so many writes and is then full.
 ghost use Rattle.std.specs.Prelude.{◌≡◌, length};
-ghost use Rattle.store.specs.Access.{write_answer};
+ghost use Rattle.store.specs.Access.{write_answer, write_sectors, VerdictsKept};
 ghost use Rattle.store.specs.Plain.{plain_size, plain_sectors, plain_verdict, plain_memory};
 ghost use Rattle.store.specs.Limited.{limited_verdict, left_after};
 ghost use Rattle.store.specs.PlainLaws.{plain_bounds, plain_count, plain_lengths};
@@ -52,9 +52,11 @@ impl Store for LimitedDisk {
         self.disk.read_sector(sector, into)
     }
 
-    // The rest of what the trait says of a write follows from the answer, the memory and the writes left.
     fn write_sector(&mut self, sector: u32, from: &[u8]) -> Result<Verdict, StoreRefusal>
         ensures answer { result ≡ write_answer (plain_size self.old.disk.memory.items) sector (length from.now) (limited_verdict self.old.left (plain_verdict self.old.disk.memory.items)) }
+        ensures size { plain_size self.new.disk.memory.items ≡ plain_size self.old.disk.memory.items }
+        ensures sectors { plain_sectors self.new.disk.memory.items ≡ write_sectors result (plain_sectors self.old.disk.memory.items) sector from.now }
+        ensures verdicts { VerdictsKept result (λ _ _. limited_verdict self.old.left (plain_verdict self.old.disk.memory.items)) (λ _ _. limited_verdict self.new.left (plain_verdict self.new.disk.memory.items)) }
         ensures memory { self.new.disk.memory.items ≡ plain_memory result self.old.disk.memory.items sector from.now }
         ensures left { self.new.left ≡ left_after result self.old.left }
     {

@@ -1,7 +1,7 @@
 // A lock on any store: it shows that store's sectors and takes no writes.
 ghost use Rattle.std.specs.Prelude.{◌≡◌, length};
 ghost use Rattle.store.specs.declared.answers.Verdict.TheVariants.{Locked};
-ghost use Rattle.store.specs.Access.{write_answer};
+ghost use Rattle.store.specs.Access.{write_answer, write_sectors, VerdictsKept};
 
 use super::{Store, StoreRefusal, Verdict, allowed};
 
@@ -47,9 +47,12 @@ impl<S: Store> Store for Lock<S> {
         self.store.read_sector(sector, into)
     }
 
-    // The store itself stays as it was, and not just what it shows. The rest of what the trait says of a write follows.
+    // The store itself stays as it was, and not just what it shows.
     fn write_sector(&mut self, sector: u32, from: &[u8]) -> Result<Verdict, StoreRefusal>
         ensures answer { result ≡ write_answer (S.Store.size self.old.store) sector (length from.now) Locked }
+        ensures size { S.Store.size self.new.store ≡ S.Store.size self.old.store }
+        ensures sectors { S.Store.sectors self.new.store ≡ write_sectors result (S.Store.sectors self.old.store) sector from.now }
+        ensures verdicts { VerdictsKept result (λ _ _. Locked) (λ _ _. Locked) }
         ensures store { self.new.store ≡ self.old.store }
     {
         allowed(self.sector_count(), sector, from.len())?;

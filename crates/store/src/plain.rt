@@ -1,6 +1,6 @@
 // A plain disk: a store over memory that its owner brings and gets back.
 ghost use Rattle.std.specs.Prelude.{◌≡◌, ◌+◌, ◌*◌, ◌≤◌, length, nat_lt};
-ghost use Rattle.store.specs.Access.{write_answer};
+ghost use Rattle.store.specs.Access.{write_answer, write_sectors, VerdictsKept};
 ghost use Rattle.store.specs.Plain.{plain_size, plain_sectors, plain_verdict, plain_memory, overlaid};
 ghost use Rattle.store.specs.PlainLaws.{plain_bounds, plain_count, plain_lengths};
 
@@ -72,9 +72,11 @@ impl Store for PlainDisk {
         Ok(())
     }
 
-    // The rest of what the trait says of a write follows from the answer and the memory.
     fn write_sector(&mut self, sector: u32, from: &[u8]) -> Result<Verdict, StoreRefusal>
         ensures answer { result ≡ write_answer (plain_size self.old.memory.items) sector (length from.now) (plain_verdict self.old.memory.items) }
+        ensures size { plain_size self.new.memory.items ≡ plain_size self.old.memory.items }
+        ensures sectors { plain_sectors self.new.memory.items ≡ write_sectors result (plain_sectors self.old.memory.items) sector from.now }
+        ensures verdicts { VerdictsKept result (λ _ _. plain_verdict self.old.memory.items) (λ _ _. plain_verdict self.new.memory.items) }
         ensures memory { self.new.memory.items ≡ plain_memory result self.old.memory.items sector from.now }
     {
         if self.is_blank() {
