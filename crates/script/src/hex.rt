@@ -1,12 +1,36 @@
 // Bytes as text: two hexadecimal digits each, in lower case, with one blank between.
-ghost use Rattle.std.specs.Prelude.{◌≡◌, ◌++◌, IfOk, string_bytes, OnOk, Some};
-ghost use Rattle.script.specs.Hex.{hex_value, hex_byte, hex_bytes, byte_read, ShownBytesAreReadBack};
+ghost use Rattle.std.specs.Prelude.{◌≡◌, ◌<◌, [], ◌∷◌, ◌++◌, IfOk, string_bytes, OnOk, Some};
+ghost use Rattle.script.specs.Hex.{hex_digit, hex_value, hex_byte, hex_bytes, byte_read, ShownBytesAreReadBack};
 
 use super::Misread;
 use super::argument::Argument;
 use std::alloc::{AllocError, Global};
 use std::fmt;
-use std::fmt::Write;
+
+// A digit as text.
+fn hex_digit(value: u8) -> &'static str
+    requires { value < 16 }
+    ensures { result.now ≡ hex_digit value ∷ [] }
+{
+    match value {
+        0 => "0",
+        1 => "1",
+        2 => "2",
+        3 => "3",
+        4 => "4",
+        5 => "5",
+        6 => "6",
+        7 => "7",
+        8 => "8",
+        9 => "9",
+        10 => "a",
+        11 => "b",
+        12 => "c",
+        13 => "d",
+        14 => "e",
+        _ => "f",
+    }
+}
 
 // What a digit stands for.
 fn hex_value(digit: u8) -> Option<u8>
@@ -21,15 +45,15 @@ fn hex_value(digit: u8) -> Option<u8>
 
 // A byte as two digits: shown so, and an argument of a step.
 #[derive(Clone, Copy)]
-pub(crate) struct HexByte(u8);
+pub struct HexByte(pub u8);
 
 impl fmt::Display for HexByte {
     ghost output = { λ byte. Some (hex_byte byte.0) };
 
-    #[tactic(auto, using(std::proofs::lemmas::Fmt::hex_byte))]
+    // Digit by digit: a hole such as `{:02x}` takes five times as long.
     fn fmt<W: fmt::Write>(&self, f: &mut fmt::Formatter<W>) -> fmt::Result {
-        let byte = self.0;
-        write!(f, "{byte:02x}")
+        f.write_str(hex_digit(self.0 / 16))?;
+        f.write_str(hex_digit(self.0 % 16))
     }
 }
 
@@ -37,7 +61,8 @@ impl fmt::Display for HexByte {
 pub fn push_byte(text: &mut String, byte: u8) -> Result<(), AllocError>
     ensures { OnOk result (string_bytes text.new ≡ string_bytes text.old ++ hex_byte byte) }
 {
-    write!(text, "{}", HexByte(byte))
+    text.push_str(hex_digit(byte / 16))?;
+    text.push_str(hex_digit(byte % 16))
 }
 
 // Bytes with one blank between, or the word `nothing` where there are none.
@@ -51,9 +76,10 @@ impl fmt::Display for Hex<'_> {
         let Some((first, rest)) = self.0.split_first() else {
             return f.write_str("nothing");
         };
-        write!(f, "{}", HexByte(*first))?;
+        HexByte(*first).fmt(f)?;
         for byte in rest {
-            write!(f, " {}", HexByte(*byte))?;
+            f.write_str(" ")?;
+            HexByte(*byte).fmt(f)?;
         }
         Ok(())
     }
@@ -63,7 +89,16 @@ impl fmt::Display for Hex<'_> {
 pub fn show_bytes(heap: Global, bytes: &[u8]) -> Result<String, AllocError>
     ensures { IfOk result (λ text. string_bytes text ≡ hex_bytes bytes.now) }
 {
-    Hex(bytes).to_string(heap)
+    let Some((first, rest)) = bytes.split_first() else {
+        return String::from_str(heap, "nothing");
+    };
+    let mut text = String::new(heap);
+    push_byte(&mut text, *first)?;
+    for byte in rest {
+        text.push(' ')?;
+        push_byte(&mut text, *byte)?;
+    }
+    Ok(text)
 }
 
 // The byte that a word of two digits writes.

@@ -14,7 +14,7 @@ mod number;
 mod step;
 mod text;
 
-pub use hex::{Hex, bytes_shown_are_read_back, push_byte, read_byte, show_bytes};
+pub use hex::{Hex, HexByte, bytes_shown_are_read_back, push_byte, read_byte, show_bytes};
 pub use link::Cable;
 pub use misread::{Misread, ReadError};
 pub use number::{MOST_BYTES, read_number};

@@ -20,7 +20,9 @@ loop-byte-preserved g c =
     λ p.
     let bs = c.in-Some.rest.now in
     let i = c.loop-byte.byte-index in
-    let wrote : HasWritten g.W.Write.write_str_gives c.loop-byte.f (32 ∷ hex_byte (get_or bs i 0)) c.write-in-loop-byte.new.self = search rules in
+    let put : HasWritten g.W.Write.write_str_gives c.loop-byte.f (32 ∷ []) c.write_str-in-loop-byte.new.self = search rules in
+    let shown : HasWritten g.W.Write.write_str_gives c.write_str-in-loop-byte.new.self (hex_byte (get_or bs i 0)) c.fmt-in-loop-byte.new.f = search rules in
+    let wrote = has_written_append _ _ _ _ _ _ put shown in
     has_written_of_eq _ _ _ _ _ (one_more bs i c.loop-byte-test.true) (has_written_append _ _ _ _ _ _ (c.loop-byte.invariant p) wrote)
 
 pub returns-clause-writes : goal.returns-clause-writes
@@ -29,5 +31,5 @@ returns-clause-writes g c =
     let b = c.in-Some.first.now in
     let bs = c.in-Some.rest.now in
     let is : c.args.self.now.0.now ≡ b ∷ bs = search rules in
-    let wrote : HasWritten g.W.Write.write_str_gives c.args.f.now (hex_byte b) c.write.new.self = search rules in
+    let wrote : HasWritten g.W.Write.write_str_gives c.args.f.now (hex_byte b) c.fmt.new.f = search rules in
     has_written_of_eq _ _ _ _ _ (all_of c.args.self.now.0.now bs b c.loop-byte.byte-index is c.loop-byte-test.false) (has_written_append _ _ _ _ _ _ wrote (c.loop-byte.invariant wrote.plain))
