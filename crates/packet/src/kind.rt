@@ -13,15 +13,23 @@ pub enum TokenKind {
     Setup,
 }
 
+impl TokenKind {
+    pub fn name(self) -> &'static str
+        ensures { result.now ≡ token_kind_name self }
+    {
+        match self {
+            TokenKind::Out => "OUT",
+            TokenKind::In => "IN",
+            TokenKind::Setup => "SETUP",
+        }
+    }
+}
+
 impl fmt::Display for TokenKind {
     ghost output = { λ kind. Some (token_kind_name kind) };
 
     fn fmt<W: fmt::Write>(&self, f: &mut fmt::Formatter<W>) -> fmt::Result {
-        f.write_str(match self {
-            TokenKind::Out => "OUT",
-            TokenKind::In => "IN",
-            TokenKind::Setup => "SETUP",
-        })
+        f.write_str(self.name())
     }
 }
 
@@ -41,16 +49,22 @@ impl DataKind {
             DataKind::Data1 => DataKind::Data0,
         }
     }
+
+    pub fn name(self) -> &'static str
+        ensures { result.now ≡ data_kind_name self }
+    {
+        match self {
+            DataKind::Data0 => "DATA0",
+            DataKind::Data1 => "DATA1",
+        }
+    }
 }
 
 impl fmt::Display for DataKind {
     ghost output = { λ kind. Some (data_kind_name kind) };
 
     fn fmt<W: fmt::Write>(&self, f: &mut fmt::Formatter<W>) -> fmt::Result {
-        f.write_str(match self {
-            DataKind::Data0 => "DATA0",
-            DataKind::Data1 => "DATA1",
-        })
+        f.write_str(self.name())
     }
 }
 
@@ -61,15 +75,23 @@ pub enum Handshake {
     Stall,
 }
 
+impl Handshake {
+    pub fn name(self) -> &'static str
+        ensures { result.now ≡ handshake_name self }
+    {
+        match self {
+            Handshake::Ack => "ACK",
+            Handshake::Nak => "NAK",
+            Handshake::Stall => "STALL",
+        }
+    }
+}
+
 impl fmt::Display for Handshake {
     ghost output = { λ handshake. Some (handshake_name handshake) };
 
     fn fmt<W: fmt::Write>(&self, f: &mut fmt::Formatter<W>) -> fmt::Result {
-        f.write_str(match self {
-            Handshake::Ack => "ACK",
-            Handshake::Nak => "NAK",
-            Handshake::Stall => "STALL",
-        })
+        f.write_str(self.name())
     }
 }
 

@@ -1,4 +1,6 @@
 // The kinds of packets by their names in a script.
+ghost use Rattle.std.specs.Prelude.{◌≡◌};
+ghost use Rattle.packet.specs.Names.{token_kind_name, data_kind_name, handshake_name};
 ghost use Rattle.script.specs.Names.{token_kind_read, data_kind_read, handshake_read};
 
 use super::Misread;
@@ -45,4 +47,22 @@ impl Argument for Handshake {
         ];
         named(word, &names, Misread::UnknownKind)
     }
+}
+
+pub fn token_kind_name(kind: TokenKind) -> &'static str
+    ensures { result.now ≡ token_kind_name kind }
+{
+    kind.name()
+}
+
+pub fn data_kind_name(kind: DataKind) -> &'static str
+    ensures { result.now ≡ data_kind_name kind }
+{
+    kind.name()
+}
+
+pub fn handshake_name(handshake: Handshake) -> &'static str
+    ensures { result.now ≡ handshake_name handshake }
+{
+    handshake.name()
 }

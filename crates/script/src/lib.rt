@@ -15,6 +15,7 @@ mod step;
 mod text;
 
 pub use hex::{Hex, HexByte, bytes_shown_are_read_back, push_byte, read_byte, show_bytes};
+pub use kind::{data_kind_name, handshake_name, token_kind_name};
 pub use link::Cable;
 pub use misread::{Misread, ReadError};
 pub use number::{MOST_BYTES, read_number};

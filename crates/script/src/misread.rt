@@ -19,11 +19,11 @@ pub enum Misread {
     ExtraWord,
 }
 
-impl fmt::Display for Misread {
-    ghost output = { λ why. Some (misread_text why) };
-
-    fn fmt<W: fmt::Write>(&self, f: &mut fmt::Formatter<W>) -> fmt::Result {
-        f.write_str(match self {
+impl Misread {
+    pub fn message(self) -> &'static str
+        ensures { result.now ≡ misread_text self }
+    {
+        match self {
             Misread::UnknownStep => "no step has this name",
             Misread::UnknownKind => "no packet of this sort has this kind",
             Misread::NotACable => "a cable is 1 or 2",
@@ -33,7 +33,15 @@ impl fmt::Display for Misread {
             Misread::NotANumber => "a number is decimal digits",
             Misread::MissingWord => "a word is missing",
             Misread::ExtraWord => "a word too many",
-        })
+        }
+    }
+}
+
+impl fmt::Display for Misread {
+    ghost output = { λ why. Some (misread_text why) };
+
+    fn fmt<W: fmt::Write>(&self, f: &mut fmt::Formatter<W>) -> fmt::Result {
+        f.write_str(self.message())
     }
 }
 
