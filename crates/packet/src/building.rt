@@ -20,6 +20,7 @@ impl Packet<'_> {
 impl WellFormed<'_> {
     // Fills the front of the memory with the packet's bytes and the rest with zeros, and answers how many bytes the
     // packet has.
+    #[inline(always)]
     pub fn build(self, out: &mut [u8; 67]) -> usize
         ensures count { result ≡ length (building (parts self.entry.packet)) }
         ensures memory { out.new ≡ built_memory (parts self.entry.packet) }

@@ -15,6 +15,7 @@ pub struct WellFormed<'a> {
 
 impl Packet<'_> {
     // Whether each part fits its field.
+    #[inline(always)]
     fn fits(self) -> bool
         ensures { result ≡ can_be_built (parts self.entry) }
     {
@@ -32,6 +33,7 @@ impl Packet<'_> {
 
 impl<'a> WellFormed<'a> {
     // Not a `TryFrom`: the clauses say by name when there is a result, what it is, and which refusal there is otherwise.
+    #[inline(always)]
     pub fn new(packet: Packet<'a>) -> Result<Self, Refusal>
         ensures variant { IsOk result ↔ (can_be_built (parts packet.entry) ≡ true) }
         ensures ok { IfOk result (λ well_formed. well_formed.packet ≡ packet.entry) }

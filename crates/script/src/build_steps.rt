@@ -26,12 +26,12 @@ impl Argument for Sort {
     ghost reading = { sort_read };
 
     fn read(word: &[u8]) -> Result<Sort, Misread> {
-        let names = [
+        const NAMES: [(&str, Sort); 3] = [
             ("token", Sort::Token),
             ("data", Sort::Data),
             ("handshake", Sort::Handshake),
         ];
-        named(word, &names, Misread::UnknownStep)
+        named(word, &NAMES, Misread::UnknownStep)
     }
 }
 

@@ -14,12 +14,12 @@ impl Argument for TokenKind {
     ghost reading = { token_kind_read };
 
     fn read(word: &[u8]) -> Result<TokenKind, Misread> {
-        let names = [
+        const NAMES: [(&str, TokenKind); 3] = [
             ("OUT", TokenKind::Out),
             ("IN", TokenKind::In),
             ("SETUP", TokenKind::Setup),
         ];
-        named(word, &names, Misread::UnknownKind)
+        named(word, &NAMES, Misread::UnknownKind)
     }
 }
 
@@ -29,8 +29,11 @@ impl Argument for DataKind {
     ghost reading = { data_kind_read };
 
     fn read(word: &[u8]) -> Result<DataKind, Misread> {
-        let names = [("DATA0", DataKind::Data0), ("DATA1", DataKind::Data1)];
-        named(word, &names, Misread::UnknownKind)
+        const NAMES: [(&str, DataKind); 2] = [
+            ("DATA0", DataKind::Data0),
+            ("DATA1", DataKind::Data1),
+        ];
+        named(word, &NAMES, Misread::UnknownKind)
     }
 }
 
@@ -40,12 +43,12 @@ impl Argument for Handshake {
     ghost reading = { handshake_read };
 
     fn read(word: &[u8]) -> Result<Handshake, Misread> {
-        let names = [
+        const NAMES: [(&str, Handshake); 3] = [
             ("ACK", Handshake::Ack),
             ("NAK", Handshake::Nak),
             ("STALL", Handshake::Stall),
         ];
-        named(word, &names, Misread::UnknownKind)
+        named(word, &NAMES, Misread::UnknownKind)
     }
 }
 

@@ -32,8 +32,8 @@ impl Argument for Cable {
     ghost reading = { cable_read };
 
     fn read(word: &[u8]) -> Result<Cable, Misread> {
-        let names = [("1", Cable::First), ("2", Cable::Second)];
-        named(word, &names, Misread::NotACable)
+        const NAMES: [(&str, Cable); 2] = [("1", Cable::First), ("2", Cable::Second)];
+        named(word, &NAMES, Misread::NotACable)
     }
 }
 
@@ -43,8 +43,8 @@ impl Argument for Port {
     ghost reading = { port_read };
 
     fn read(word: &[u8]) -> Result<Port, Misread> {
-        let names = [("open", Port::Open), ("closed", Port::Closed)];
-        named(word, &names, Misread::NotAPort)
+        const NAMES: [(&str, Port); 2] = [("open", Port::Open), ("closed", Port::Closed)];
+        named(word, &NAMES, Misread::NotAPort)
     }
 }
 
@@ -54,10 +54,10 @@ impl Argument for Direction {
     ghost reading = { direction_read };
 
     fn read(word: &[u8]) -> Result<Direction, Misread> {
-        let names = [
+        const NAMES: [(&str, Direction); 2] = [
             ("outward", Direction::Outward),
             ("homeward", Direction::Homeward),
         ];
-        named(word, &names, Misread::NotADirection)
+        named(word, &NAMES, Misread::NotADirection)
     }
 }

@@ -74,7 +74,7 @@ impl Argument for Verb {
     ghost reading = { verb_read };
 
     fn read(word: &[u8]) -> Result<Verb, Misread> {
-        let names = [
+        const NAMES: [(&str, Verb); 10] = [
             ("packet", Verb::Packet),
             ("build", Verb::Build),
             ("cable", Verb::Cable),
@@ -86,7 +86,7 @@ impl Argument for Verb {
             ("sector", Verb::Sector),
             ("put", Verb::Put),
         ];
-        named(word, &names, Misread::UnknownStep)
+        named(word, &NAMES, Misread::UnknownStep)
     }
 }
 

@@ -52,10 +52,7 @@ pub fn bodies(rt: &HostRuntime) -> anyhow::Result<Score> {
 pub fn handshakes(rt: &HostRuntime) -> anyhow::Result<Score> {
     let mut score = Score::default();
     for kind in [Handshake::Ack, Handshake::Nak, Handshake::Stall] {
-        score.count(comes_back(
-            Packet::handshake(kind),
-            Packet::Handshake(kind),
-        ));
+        score.count(comes_back(Packet::handshake(kind), Packet::Handshake(kind)));
     }
     println!(rt; "handshakes there and back: {score}")?;
     Ok(score)

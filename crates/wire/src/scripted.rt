@@ -111,6 +111,7 @@ impl Wire for ScriptedWire {
         self.tally
     }
 
+    #[inline(always)]
     fn carry(&mut self, _direction: Direction, sent: &[u8], heard: &mut [u8; 67]) -> usize
         ensures carries { Carries sent.now self.old.tally result heard.new self.new.tally }
         ensures count { result ≡ length (scripted_arrival self.old.script.items self.old.place sent.now) }
