@@ -79,7 +79,8 @@ fn asked(configured: bool, kind: u8, request: u8, value: u16, index: u16) -> Tra
 impl Bulk {
     // Ends a halt and sets its toggle to DATA0, unless an invalid block came.
     fn clear_halt(&mut self, direction: DataDirection)
-        ensures { bulk_seen self.new ≡ halt_cleared direction (bulk_seen self.old) self.old.halts }
+        ensures state { bulk_seen self.new ≡ halt_cleared direction (bulk_seen self.old) self.old.halts }
+        ensures buffer { self.new.buffer ≡ self.old.buffer }
     {
         let Halts::Each { .. } = self.halts else {
             return;
@@ -90,7 +91,8 @@ impl Bulk {
 
     // A reset of the transport drops the command.
     fn reset(&mut self)
-        ensures { bulk_seen self.new ≡ transport_reset (bulk_seen self.old) }
+        ensures state { bulk_seen self.new ≡ transport_reset (bulk_seen self.old) }
+        ensures buffer { self.new.buffer ≡ self.old.buffer }
     {
         self.halts = self.halts.keep();
         self.phase = Phase::Command;
@@ -111,7 +113,8 @@ impl Bulk {
 impl Core {
     // What a request does when its status is first sent.
     fn take_effect(&mut self, request: Request)
-        ensures { seen self.new ≡ effect request (seen self.old) }
+        ensures state { seen self.new ≡ effect request (seen self.old) }
+        ensures buffer { self.new.bulk.buffer ≡ self.old.bulk.buffer }
     {
         match request {
             Request::SetAddress(address) => {

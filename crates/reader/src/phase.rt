@@ -25,7 +25,7 @@ pub struct Sending {
 
 // Data on their way from the host: how many bytes are still due by the block's length, how many are left to come, which
 // sector they are for, and how many bytes of that sector have come; they stand in the front of the buffer, which is fixed
-// memory of the core, so that no step copies a sector.
+// memory of the core, so that what comes is copied once.
 #[derive(Clone, Copy)]
 pub struct Receiving {
     pub tag: u32,

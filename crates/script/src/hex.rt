@@ -50,7 +50,7 @@ pub struct HexByte(pub u8);
 impl fmt::Display for HexByte {
     ghost output = { λ byte. Some (hex_byte byte.0) };
 
-    // Digit by digit: a hole such as `{:02x}` takes five times as long.
+    // Digit by digit, which takes a fraction of the time of a hole such as `{:02x}`.
     fn fmt<W: fmt::Write>(&self, f: &mut fmt::Formatter<W>) -> fmt::Result {
         f.write_str(hex_digit(self.0 / 16))?;
         f.write_str(hex_digit(self.0 % 16))
