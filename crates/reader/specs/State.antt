@@ -1,5 +1,5 @@
 -- The reader's state as plain values.
-use Rattle.std.specs.Prelude.{ℕ, Bool, false, List, take}
+use Rattle.std.specs.Prelude.{◌≡◌, ℕ, Bool, true, false, List, take}
 use Rattle.reader.specs.declared.phase.Phase.{Phase as Phases}
 use Rattle.reader.specs.declared.phase.Phase.TheVariants.{Command, DataIn, DataOut, Status}
 use Rattle.reader.specs.declared.phase.Source.{Source}
@@ -8,7 +8,7 @@ use Rattle.reader.specs.declared.state.Bulk.{Bulk as Ends}
 use Rattle.reader.specs.declared.state.Control.{Control as ControlEnd}
 use Rattle.reader.specs.declared.state.Core.{Core}
 use Rattle.reader.specs.declared.state.Expectation.{Expectation}
-use Rattle.reader.specs.declared.state.Expectation.TheVariants.{Nothing}
+use Rattle.reader.specs.declared.state.Expectation.TheVariants.{Nothing, SetupData, ControlData, BulkData, ControlAck, BulkAck}
 use Rattle.reader.specs.declared.state.Halts.{Halts}
 use Rattle.reader.specs.declared.state.Halts.TheVariants.{Each}
 use Rattle.reader.specs.declared.state.Transfer.TheVariants.{None}
@@ -55,6 +55,18 @@ seen c = record {
   bulk = bulk_seen c.bulk;
   expects = c.expects;
 }
+
+abbrev pub awaits_bulk_data : Expectation → Bool
+awaits_bulk_data BulkData = true
+awaits_bulk_data Nothing = false
+awaits_bulk_data SetupData = false
+awaits_bulk_data ControlData = false
+awaits_bulk_data ControlAck = false
+awaits_bulk_data BulkAck = false
+
+-- the whole buffer stays, those of its bytes too that no command counts, unless data for the endpoint that receives are awaited
+abbrev pub BufferKept : Core → Core → Type 0
+BufferKept c c' = awaits_bulk_data c.expects ≡ false → c'.bulk.buffer ≡ c.bulk.buffer
 
 -- after a port reset
 abbrev pub fresh : State

@@ -18,7 +18,8 @@ use transport::DataDirection;
 impl Bulk {
     // What was sent is acknowledged.
     fn acknowledge(&mut self)
-        ensures { bulk_seen self.new ≡ bulk_acknowledged (bulk_seen self.old).phase (bulk_seen self.old) }
+        ensures state { bulk_seen self.new ≡ bulk_acknowledged (bulk_seen self.old).phase (bulk_seen self.old) }
+        ensures buffer { self.new.buffer ≡ self.old.buffer }
     {
         match self.phase {
             Phase::DataIn(sending) => {
@@ -37,7 +38,8 @@ impl Bulk {
 impl Core {
     // The acknowledgement of what was sent.
     pub(crate) fn hear_bulk_ack(&mut self) -> Answer
-        ensures { (seen self.new, answer_seen result) ≡ bulk_ack (seen self.old) }
+        ensures answers { (seen self.new, answer_seen result) ≡ bulk_ack (seen self.old) }
+        ensures buffer { self.new.bulk.buffer ≡ self.old.bulk.buffer }
     {
         self.expects = Expectation::Nothing;
         self.bulk.acknowledge();
@@ -46,7 +48,8 @@ impl Core {
 
     // An IN for the endpoint that sends.
     pub(crate) fn hear_bulk_in<S: Store>(&mut self, store: &S) -> Answer
-        ensures { (seen self.new, answer_seen result) ≡ bulk_in (seen self.old) (disk_of S.Store store.now) }
+        ensures answers { (seen self.new, answer_seen result) ≡ bulk_in (seen self.old) (disk_of S.Store store.now) }
+        ensures buffer { self.new.bulk.buffer ≡ self.old.bulk.buffer }
     {
         self.expects = Expectation::Nothing;
         if self.bulk.halts.is_halted(DataDirection::In) {

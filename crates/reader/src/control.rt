@@ -131,7 +131,8 @@ impl Core {
 
     // An IN for the control endpoint.
     pub(crate) fn hear_control_in(&mut self) -> Answer
-        ensures { (seen self.new, answer_seen result) ≡ control_in (seen self.old) }
+        ensures answers { (seen self.new, answer_seen result) ≡ control_in (seen self.old) }
+        ensures buffer { self.new.bulk.buffer ≡ self.old.bulk.buffer }
     {
         self.expects = Expectation::Nothing;
         match self.control.transfer {
@@ -152,7 +153,8 @@ impl Core {
 
     // The data after a SETUP.
     pub(crate) fn hear_setup_data(&mut self, kind: DataKind, body: &[u8]) -> Answer
-        ensures { (seen self.new, answer_seen result) ≡ setup_data (seen self.old) kind body.now }
+        ensures answers { (seen self.new, answer_seen result) ≡ setup_data (seen self.old) kind body.now }
+        ensures buffer { self.new.bulk.buffer ≡ self.old.bulk.buffer }
     {
         self.expects = Expectation::Nothing;
         if kind != DataKind::Data0 || body.len() != 8 {
@@ -166,7 +168,8 @@ impl Core {
 
     // The data after an OUT for the control endpoint.
     pub(crate) fn hear_control_data(&mut self) -> Answer
-        ensures { (seen self.new, answer_seen result) ≡ control_data (seen self.old) }
+        ensures answers { (seen self.new, answer_seen result) ≡ control_data (seen self.old) }
+        ensures buffer { self.new.bulk.buffer ≡ self.old.bulk.buffer }
     {
         self.expects = Expectation::Nothing;
         match self.control.transfer {
@@ -179,7 +182,8 @@ impl Core {
 
     // The acknowledgement of a status.
     pub(crate) fn hear_control_ack(&mut self) -> Answer
-        ensures { (seen self.new, answer_seen result) ≡ control_ack (seen self.old) }
+        ensures answers { (seen self.new, answer_seen result) ≡ control_ack (seen self.old) }
+        ensures buffer { self.new.bulk.buffer ≡ self.old.bulk.buffer }
     {
         self.expects = Expectation::Nothing;
         self.control.addresses = self.control.addresses.acknowledge();

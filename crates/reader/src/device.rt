@@ -7,7 +7,7 @@ ghost use Rattle.reader.specs.BulkEnds.{ComesTo};
 ghost use Rattle.reader.specs.Control.{with_control, with_addresses};
 ghost use Rattle.reader.specs.Disk.{disk_of, Left};
 ghost use Rattle.reader.specs.Hears.{token_taken, hears_token, hears_data, hears_handshake, hears_packet, hears};
-ghost use Rattle.reader.specs.State.{seen, fresh};
+ghost use Rattle.reader.specs.State.{seen, fresh, BufferKept};
 ghost use Rattle.store.specs.Access.{read_answer, read_memory, write_answer, write_sectors, VerdictsKept};
 
 use super::answer::Answer;
@@ -82,7 +82,8 @@ impl<S: Store> Reader<S> {
 
     // A token for an address that is heard.
     fn take_token(&mut self, kind: TokenKind, endpoint: u8) -> Answer
-        ensures { ComesTo (token_taken kind endpoint (seen self.old.core) (disk_of S.Store self.old.store)) (seen self.new.core) (answer_seen result) (disk_of S.Store self.old.store) (disk_of S.Store self.new.store) }
+        ensures comes { ComesTo (token_taken kind endpoint (seen self.old.core) (disk_of S.Store self.old.store)) (seen self.new.core) (answer_seen result) (disk_of S.Store self.old.store) (disk_of S.Store self.new.store) }
+        ensures buffer { self.new.core.bulk.buffer ≡ self.old.core.bulk.buffer }
     {
         self.core.expects = match (kind, endpoint) {
             (TokenKind::In, 0) => return self.core.hear_control_in(),
@@ -98,7 +99,8 @@ impl<S: Store> Reader<S> {
     }
 
     fn hear_token(&mut self, kind: TokenKind, address: u8, endpoint: u8) -> Answer
-        ensures { ComesTo (hears_token (seen self.old.core) (disk_of S.Store self.old.store) kind address endpoint) (seen self.new.core) (answer_seen result) (disk_of S.Store self.old.store) (disk_of S.Store self.new.store) }
+        ensures comes { ComesTo (hears_token (seen self.old.core) (disk_of S.Store self.old.store) kind address endpoint) (seen self.new.core) (answer_seen result) (disk_of S.Store self.old.store) (disk_of S.Store self.new.store) }
+        ensures buffer { self.new.core.bulk.buffer ≡ self.old.core.bulk.buffer }
     {
         if !self.core.control.addresses.hear(address) {
             self.core.expects = Expectation::Nothing;
@@ -109,7 +111,8 @@ impl<S: Store> Reader<S> {
     }
 
     fn hear_data(&mut self, kind: DataKind, body: &[u8]) -> Answer
-        ensures { ComesTo (hears_data self.old.core.expects (seen self.old.core) (disk_of S.Store self.old.store) kind body.now) (seen self.new.core) (answer_seen result) (disk_of S.Store self.old.store) (disk_of S.Store self.new.store) }
+        ensures comes { ComesTo (hears_data self.old.core.expects (seen self.old.core) (disk_of S.Store self.old.store) kind body.now) (seen self.new.core) (answer_seen result) (disk_of S.Store self.old.store) (disk_of S.Store self.new.store) }
+        ensures buffer { BufferKept self.old.core self.new.core }
     {
         match self.core.expects {
             Expectation::SetupData => self.core.hear_setup_data(kind, body),
@@ -123,7 +126,8 @@ impl<S: Store> Reader<S> {
     }
 
     fn hear_handshake(&mut self, handshake: Handshake) -> Answer
-        ensures { ComesTo (hears_handshake (seen self.old.core) handshake) (seen self.new.core) (answer_seen result) (disk_of S.Store self.old.store) (disk_of S.Store self.new.store) }
+        ensures comes { ComesTo (hears_handshake (seen self.old.core) handshake) (seen self.new.core) (answer_seen result) (disk_of S.Store self.old.store) (disk_of S.Store self.new.store) }
+        ensures buffer { self.new.core.bulk.buffer ≡ self.old.core.bulk.buffer }
     {
         match (handshake, mem::take(&mut self.core.expects)) {
             (Handshake::Ack, Expectation::ControlAck) => self.core.hear_control_ack(),
@@ -133,7 +137,8 @@ impl<S: Store> Reader<S> {
     }
 
     fn hear_packet(&mut self, packet: Packet<'_>) -> Answer
-        ensures { ComesTo (hears_packet (seen self.old.core) (disk_of S.Store self.old.store) (parts packet.entry)) (seen self.new.core) (answer_seen result) (disk_of S.Store self.old.store) (disk_of S.Store self.new.store) }
+        ensures comes { ComesTo (hears_packet (seen self.old.core) (disk_of S.Store self.old.store) (parts packet.entry)) (seen self.new.core) (answer_seen result) (disk_of S.Store self.old.store) (disk_of S.Store self.new.store) }
+        ensures buffer { BufferKept self.old.core self.new.core }
     {
         match packet {
             Packet::Token {
@@ -153,6 +158,7 @@ impl<S: Store> Reader<S> {
         ensures count { result ≡ length (answer_bytes (hears (seen self.old.core) (disk_of S.Store self.old.store) (reading arrival.now)).answer) }
         ensures memory { answer.new ≡ answer_memory (hears (seen self.old.core) (disk_of S.Store self.old.store) (reading arrival.now)).answer }
         ensures disk { Left (hears (seen self.old.core) (disk_of S.Store self.old.store) (reading arrival.now)).written (disk_of S.Store self.old.store) (disk_of S.Store self.new.store) }
+        ensures buffer { BufferKept self.old.core self.new.core }
     {
         let reply = match read(arrival) {
             Ok(packet) => self.hear_packet(packet),

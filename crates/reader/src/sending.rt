@@ -45,7 +45,8 @@ pub(crate) fn waiting_body<S: Store>(store: &S, sending: Sending) -> Body
 impl Bulk {
     // The packet that waited is acknowledged: the next one waits, or a status does.
     pub(crate) fn data_acknowledged(&mut self, sending: Sending)
-        ensures { bulk_seen self.new ≡ data_acknowledged self.old.toggles self.old.halts sending.tag sending.due sending.left sending.moved sending.source }
+        ensures state { bulk_seen self.new ≡ data_acknowledged self.old.toggles self.old.halts sending.tag sending.due sending.left sending.moved sending.source }
+        ensures buffer { self.new.buffer ≡ self.old.buffer }
     {
         let count = sending.left.min(64);
         let mut rest = sending;

@@ -14,7 +14,8 @@ use transport::{Command, CommandBlock, DataDirection, Status, StatusBlock};
 impl Bulk {
     // Data are over: the endpoint halts if bytes are still due, and a status waits.
     pub(crate) fn end_data(&mut self, direction: DataDirection, block: StatusBlock)
-        ensures { bulk_seen self.new ≡ over self.old.toggles self.old.halts direction block.tag block.residue block.status }
+        ensures state { bulk_seen self.new ≡ over self.old.toggles self.old.halts direction block.tag block.residue block.status }
+        ensures buffer { self.new.buffer ≡ self.old.buffer }
     {
         if block.residue > 0 {
             self.halts = self.halts.with(direction, true);
